@@ -1,0 +1,87 @@
+-- Records in lent cells, and sound cells (document 01, "Tables, orders, nodes").
+-- Assumes nothing.
+use mathlib.Core.Bool.{Bool, not, _&&_, _||_}
+use mathlib.Core.List.{List}
+use Prim.Native.Nat.{ℕ, _+_, _-_, _*_, _/_, _%_}
+use lib.Dec.{eqb, leb, ltb}
+use lib.ListN.{length, getD, drop}
+use Rattle.rule.specs.Bits.{below}
+use Rattle.rule.specs.Tests.{each}
+use Rattle.rule.specs.Order.{flags, level}
+
+-- "Record k, from 0, is node k+2: three 16-bit cells"
+abbrev pub width : ℕ
+width = 3
+
+-- the cells of all the records that a diagram of ten flags can have: 1,024 records
+abbrev pub mostCells : ℕ
+mostCells = 3072
+
+-- what refusal 5 tests: "length no multiple of 3, or above 3,072"
+unfoldable pub fitCells : List ℕ → Bool
+fitCells c = eqb (length c % width) 0 && leb (length c) mostCells
+
+-- how many records the cells hold
+abbrev pub room : List ℕ → ℕ
+room c = length c / width
+
+-- "the flag asked, the low node (flag is 0) and the high node (flag is 1)" of record k
+unfoldable pub flagAt : List ℕ → ℕ → ℕ
+flagAt c k = getD c (k * width) 0
+
+unfoldable pub lowAt : List ℕ → ℕ → ℕ
+lowAt c k = getD c (k * width + 1) 0
+
+unfoldable pub highAt : List ℕ → ℕ → ℕ
+highAt c k = getD c (k * width + 2) 0
+
+-- the record of a node from 2 on
+abbrev pub recordOf : ℕ → ℕ
+recordOf m = m - 2
+
+-- an end node: 0 "no", 1 "yes"
+abbrev pub isEnd : ℕ → Bool
+isEnd m = ltb m 2
+
+-- ---- sound cells: n flags, the order's flags in a list, the cells, the used records
+
+-- "each flag is below n"
+unfoldable pub flagsBelow : ℕ → List ℕ → ℕ → Bool
+flagsBelow n c used = each (λ k. ltb (flagAt c k) n) (below used)
+
+-- "low and high differ"
+unfoldable pub childrenDiffer : List ℕ → ℕ → Bool
+childrenDiffer c used = each (λ k. not (eqb (lowAt c k) (highAt c k))) (below used)
+
+-- "and are smaller than the record's own node number"
+unfoldable pub childrenSmaller : List ℕ → ℕ → Bool
+childrenSmaller c used = each (λ k. ltb (lowAt c k) (k + 2) && ltb (highAt c k) (k + 2)) (below used)
+
+-- an end node, or a record that asks a flag standing later in the order than v
+unfoldable pub asksLater : List ℕ → List ℕ → ℕ → ℕ → Bool
+asksLater order c v m = isEnd m || ltb (level order v) (level order (flagAt c (recordOf m)))
+
+-- "a child that is a record asks a flag standing later in the order"
+unfoldable pub childrenLater : List ℕ → List ℕ → ℕ → Bool
+childrenLater order c used =
+    each (λ k. asksLater order c (flagAt c k) (lowAt c k) && asksLater order c (flagAt c k) (highAt c k)) (below used)
+
+-- records j and k are equal: the same flag, low and high
+unfoldable pub sameRecord : List ℕ → ℕ → ℕ → Bool
+sameRecord c j k = eqb (flagAt c j) (flagAt c k) && (eqb (lowAt c j) (lowAt c k) && eqb (highAt c j) (highAt c k))
+
+-- "no two used records are equal"
+unfoldable pub noneEqual : List ℕ → ℕ → Bool
+noneEqual c used = each (λ k. each (λ j. not (sameRecord c j k)) (below k)) (below used)
+
+-- "every cell past the used records is 0"
+unfoldable pub restClear : List ℕ → ℕ → Bool
+restClear c used = each (eqb 0) (drop (used * width) c)
+
+-- "Lent cells are sound when": all of these, of no more used records than the cells hold
+unfoldable pub sound : ℕ → List ℕ → List ℕ → ℕ → Bool
+sound n order c used =
+    leb used (room c)
+    && (flagsBelow n c used
+    && (childrenDiffer c used
+    && (childrenSmaller c used && (childrenLater (flags n order) c used && (noneEqual c used && restClear c used)))))

@@ -1,0 +1,16 @@
+pub mod Bits
+pub mod Tests
+pub mod Table
+pub mod Level
+pub mod Order
+pub mod Cells
+pub mod Diagram
+pub mod Reduced
+pub mod Results
+pub mod Refusals
+pub mod Answers
+pub mod Calls
+pub mod Files
+pub mod Listing
+pub mod History
+pub mod Examples

@@ -1,0 +1,94 @@
+-- The listing program's lines (document 01, "The listing program"), in bytes.
+-- Assumes nothing.
+use mathlib.Core.Bool.{Bool, true, false, cond, not, _||_}
+use mathlib.Core.List.{List, [], _∷_, _++_, map}
+use Prim.Native.Nat.{ℕ, zero, suc, _+_, _-_, _*_, _/_, _%_, _^_}
+use Prim.Native.Char.{Char, code}
+use Prim.Native.String.{String}
+use lib.Dec.{eqb, leb, ltb}
+use lib.ListN.{length}
+use Rattle.rule.specs.Bits.{below}
+use Rattle.rule.specs.Tests.{each, keep}
+use Rattle.rule.specs.Level.{levelCount, size}
+use Rattle.rule.specs.Order.{askedBefore, packed}
+use Rattle.rule.specs.Refusals.{Row, refusal}
+
+-- a text in bytes
+unfoldable pub text : String → List ℕ
+text String.[] = []
+text (String._∷_ c s) = code c ∷ text s
+
+-- a number in decimal digits, by fuel: at most as many digits as the number
+unfoldable pub decimalIn : ℕ → ℕ → List ℕ
+decimalIn zero x = (x % 10 + 48) ∷ []
+decimalIn (suc fuel) x = elim (ltb x 10) [ true ↦ (x + 48) ∷ [] | false ↦ decimalIn fuel (x / 10) ++ ((x % 10 + 48) ∷ []) ]
+
+abbrev pub decimal : ℕ → List ℕ
+decimal x = decimalIn x x
+
+-- a blank and a number; a line end
+abbrev pub number : ℕ → List ℕ
+number x = text " " ++ decimal x
+
+abbrev pub lineEnd : List ℕ
+lineEnd = 0x0A ∷ []
+
+unfoldable pub numbers : List ℕ → List ℕ
+numbers [] = []
+numbers (x ∷ xs) = number x ++ numbers xs
+
+-- "It reads standard input up to the first byte 0A, or to the end"
+unfoldable pub firstLine : List ℕ → List ℕ
+firstLine [] = []
+firstLine (b ∷ bs) = elim (eqb b 0x0A) [ true ↦ [] | false ↦ b ∷ firstLine bs ]
+
+-- "as a table of the characters 0 and 1, row 0 first"
+abbrev pub isDigit : ℕ → Bool
+isDigit b = eqb b 48 || eqb b 49
+
+abbrev pub rowsOf : List ℕ → List ℕ
+rowsOf line = map (λ b. b - 48) line
+
+-- the flag count n of a line of 2^n characters, n up to 10; 11 where there is none
+unfoldable pub flagsFrom : ℕ → ℕ → ℕ → ℕ
+flagsFrom zero n rows = n
+flagsFrom (suc more) n rows = elim (eqb rows (2 ^ n)) [ true ↦ n | false ↦ flagsFrom more (suc n) rows ]
+
+abbrev pub flagsOf : List ℕ → ℕ
+flagsOf line = flagsFrom 11 0 (length line)
+
+-- "More than 1,024 rows print `refused 1`; a row count that is no power of two `refused 2`, the empty line too; another character `refused 3`; nine or
+-- ten flags `refused 8`."
+abbrev pub listingRows : List ℕ → List Row
+listingRows line =
+    (ltb 1024 (length line), 1) ∷ (ltb 10 (flagsOf line), 2) ∷ (not (each isDigit line), 3) ∷ (ltb 8 (flagsOf line), 8) ∷ []
+
+-- the nodes asking flag v in the packed diagram
+abbrev pub askingPacked : ℕ → List ℕ → ℕ → ℕ
+askingPacked n t v = levelCount (askedBefore v (packed n t)) v t
+
+-- "A `flag` line has the flag and its nodes, by rising flag."
+unfoldable pub flagLines : ℕ → List ℕ → List ℕ → List ℕ
+flagLines n t [] = []
+flagLines n t (v ∷ vs) = text "flag" ++ (number v ++ (number (askingPacked n t v) ++ (lineEnd ++ flagLines n t vs)))
+
+-- "`yes` is the number of all 2^n rows that say yes."
+abbrev pub yesCount : List ℕ → ℕ
+yesCount t = length (keep (eqb 1) t)
+
+-- what is printed of a table of n flags; "With no flags the `order` line is the bare word."
+unfoldable pub listed : ℕ → List ℕ → List ℕ
+listed n t =
+    text "flags" ++ (number n ++ (lineEnd
+    ++ (text "nodes" ++ (number (size (packed n t) t) ++ (lineEnd
+    ++ (text "order" ++ (numbers (packed n t) ++ (lineEnd
+    ++ (flagLines n t (below n)
+    ++ (text "yes" ++ (number (yesCount t) ++ lineEnd)))))))))))
+
+abbrev pub listedOr : ℕ → List ℕ → List ℕ
+listedOr zero line = listed (flagsOf line) (rowsOf line)
+listedOr (suc k) line = text "refused" ++ (number (suc k) ++ lineEnd)
+
+-- all that the program prints, for what it finds on standard input
+unfoldable pub listing : List ℕ → List ℕ
+listing input = listedOr (refusal (listingRows (firstLine input))) (firstLine input)

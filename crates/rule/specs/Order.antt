@@ -1,0 +1,83 @@
+-- Orders of the flags (document 01, "Tables, orders, nodes" and "Packing"). The one asked first stands first.
+-- Assumes nothing.
+use mathlib.Core.Bool.{Bool, true, false, cond, _&&_}
+use mathlib.Core.List.{List, [], _∷_, _++_, map}
+use Prim.Native.Nat.{ℕ, zero, suc}
+use lib.Dec.{eqb, ltb}
+use lib.ListN.{length, take, drop, replicate}
+use Rattle.rule.specs.Bits.{below}
+use Rattle.rule.specs.Tests.{each, keep}
+use Rattle.rule.specs.Level.{size}
+
+-- "An order is kept in ten bytes"
+abbrev pub places : ℕ
+places = 10
+
+-- the flags of an order of n flags that is kept in ten places
+abbrev pub flags : ℕ → List ℕ → List ℕ
+flags n order = take n order
+
+-- how often a number stands in a list
+unfoldable pub times : ℕ → List ℕ → ℕ
+times v l = length (keep (eqb v) l)
+
+-- "An order names each flag once, .. the places from n on being 0": what refusal 4 tests
+unfoldable pub fitOrder : ℕ → List ℕ → Bool
+fitOrder n order = each (λ v. eqb (times v (flags n order)) 1) (below n) && each (eqb 0) (drop n order)
+
+-- an order of flags in its ten places
+abbrev pub inPlaces : List ℕ → List ℕ
+inPlaces order = take places (order ++ replicate places 0)
+
+-- "The rising order": flag i stands at place i, and the places from n on are 0
+abbrev pub risingPlace : ℕ → ℕ → ℕ
+risingPlace n i = cond (ltb i n) i 0
+
+abbrev pub rising : ℕ → List ℕ
+rising n = map (risingPlace n) (0 ∷ 1 ∷ 2 ∷ 3 ∷ 4 ∷ 5 ∷ 6 ∷ 7 ∷ 8 ∷ 9 ∷ [])
+
+-- the flags that an order asks before flag v: "the flags standing before it in the order"
+unfoldable pub askedBefore : ℕ → List ℕ → List ℕ
+askedBefore v [] = []
+askedBefore v (u ∷ order) = cond (eqb u v) [] (u ∷ askedBefore v order)
+
+-- the level of flag v: its place in the order
+abbrev pub level : List ℕ → ℕ → ℕ
+level order v = length (askedBefore v order)
+
+-- ---- all orders, in dictionary order
+
+-- every way to take one flag of a list, with those that are left, in the list's sequence
+unfoldable pub picks : List ℕ → List (ℕ × List ℕ)
+picks [] = []
+picks (v ∷ vs) = (v, vs) ∷ map (λ (p : ℕ × List ℕ). (p .0, v ∷ p .1)) (picks vs)
+
+unfoldable pub gather : (ℕ × List ℕ → List (List ℕ)) → List (ℕ × List ℕ) → List (List ℕ)
+gather f [] = []
+gather f (p ∷ ps) = f p ++ gather f ps
+
+-- all orders of the k flags of a rising list, in dictionary order: by the first flag, then by the rest
+unfoldable pub ordersOf : ℕ → List ℕ → List (List ℕ)
+ordersOf zero vs = [] ∷ []
+ordersOf (suc k) vs = gather (λ (p : ℕ × List ℕ). map (λ o. p .0 ∷ o) (ordersOf k (p .1))) (picks vs)
+
+-- "all n! orders"
+abbrev pub orders : ℕ → List (List ℕ)
+orders n = ordersOf n (below n)
+
+-- ---- the packed order
+
+-- the first of `best`, whose cost is `least`, and the others that costs least
+unfoldable pub firstLeast : (List ℕ → ℕ) → List ℕ → ℕ → List (List ℕ) → List ℕ
+firstLeast cost best least [] = best
+firstLeast cost best least (o ∷ os) =
+    let c = cost o in
+    firstLeast cost (cond (ltb c least) o best) (cond (ltb c least) c least) os
+
+unfoldable pub leastOf : (List ℕ → ℕ) → List (List ℕ) → List ℕ
+leastOf cost [] = []
+leastOf cost (o ∷ os) = firstLeast cost o (cost o) os
+
+-- "The order has the fewest nodes of all n! orders; of several, the one first by dictionary comparison."
+unfoldable pub packed : ℕ → List ℕ → List ℕ
+packed n t = leastOf (λ o. size o t) (orders n)

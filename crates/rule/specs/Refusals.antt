@@ -1,0 +1,163 @@
+-- The refusal table, row by row, and for every call the rows that it tests, in its sequence (document 01, "Refused, by where it is found").
+-- The reader's own sequence is in Files.antt.
+-- Assumes nothing.
+use mathlib.Core.Bool.{Bool, true, false, not, _&&_, _||_}
+use mathlib.Core.List.{List, [], _∷_}
+use Prim.Native.Nat.{ℕ, _+_, _^_}
+use lib.Dec.{leb, ltb}
+use lib.ListN.{length}
+use Rattle.rule.specs.Table.{fitLength, fitRows, cofactor}
+use Rattle.rule.specs.Level.{size}
+use Rattle.rule.specs.Order.{flags, fitOrder, packed}
+use Rattle.rule.specs.Cells.{fitCells, room, sound}
+use Rattle.rule.specs.Diagram.{allReached, tableOf}
+use Rattle.rule.specs.Results.{flagTable, joinTable, chooseTable, needed, free}
+
+-- a row of the table: whether it applies, and its number
+abbrev pub Row : Type 0
+Row = Bool × ℕ
+
+abbrev pub firstElse : Bool → ℕ → ℕ → ℕ
+firstElse true number rest = number
+firstElse false number rest = rest
+
+-- "test downwards and give the first that applies"; 0 where none does: "A call that meets none of these is accepted."
+abbrev pub refusal : List Row → ℕ
+refusal [] = 0
+refusal (row ∷ rows) = firstElse (row .0) (row .1) (refusal rows)
+
+-- ---- the rows
+
+-- "n above 10"
+abbrev pub flagCount : ℕ → Row
+flagCount n = (ltb 10 n, 1)
+
+-- "length not 2^n"
+abbrev pub tableLength : ℕ → List ℕ → Row
+tableLength n t = (not (fitLength n t), 2)
+
+-- "a byte other than 0 or 1"
+abbrev pub tableRead : List ℕ → Row
+tableRead t = (not (fitRows t), 3)
+
+-- "a flag missing or twice, or a place from n on not 0"
+abbrev pub order : ℕ → List ℕ → Row
+order n o = (not (fitOrder n o), 4)
+
+-- "length no multiple of 3, or above 3,072"
+abbrev pub cells : List ℕ → Row
+cells c = (not (fitCells c), 5)
+
+-- "not sound, or more used than the cells hold"
+abbrev pub records : ℕ → List ℕ → List ℕ → ℕ → Row
+records n o c used = (not (sound n o c used), 6)
+
+-- the same, or "for a diagram with a root up to used records + 1, a record out of reach"
+abbrev pub diagramRecords : ℕ → List ℕ → List ℕ → ℕ → ℕ → Row
+diagramRecords n o c used root = (not (sound n o c used) || (leb root (used + 1) && not (allReached c used root)), 6)
+
+-- "above used records + 1"
+abbrev pub node : ℕ → ℕ → Row
+node used m = (ltb (used + 1) m, 7)
+
+-- "shorter than 3^n cells"
+abbrev pub workspace : ℕ → List ℕ → Row
+workspace n w = (ltb (length w) (3 ^ n), 8)
+
+-- "row not below 2^n"
+abbrev pub rowArgument : ℕ → ℕ → Row
+rowArgument n r = (leb (2 ^ n) r, 9)
+
+-- "flag not below n"
+abbrev pub flagArgument : ℕ → ℕ → Row
+flagArgument n i = (leb n i, 9)
+
+-- "operator above 15"
+abbrev pub operatorArgument : ℕ → Row
+operatorArgument code = (ltb 15 code, 9)
+
+-- "constant or fixed value above 1"
+abbrev pub valueArgument : ℕ → Row
+valueArgument v = (ltb 1 v, 9)
+
+-- "records needed exceed those free"
+abbrev pub result : ℕ → ℕ → Row
+result need have = (ltb have need, 10)
+
+-- ---- the calls. Each is given n, an order, cells and used records, and then what the call itself takes.
+
+abbrev pub buildRows : ℕ → List ℕ → List ℕ → List ℕ → List Row
+buildRows n t o c =
+    flagCount n ∷ tableLength n t ∷ tableRead t ∷ order n o ∷ cells c ∷ result (size (flags n o) t) (room c) ∷ []
+
+abbrev pub checkRows : ℕ → List ℕ → List ℕ → ℕ → ℕ → List Row
+checkRows n o c used root = flagCount n ∷ order n o ∷ cells c ∷ diagramRecords n o c used root ∷ node used root ∷ []
+
+abbrev pub walkRows : ℕ → List ℕ → List ℕ → ℕ → ℕ → ℕ → List Row
+walkRows n o c used m r = flagCount n ∷ order n o ∷ cells c ∷ records n o c used ∷ node used m ∷ rowArgument n r ∷ []
+
+-- "tabulate a rule into lent bytes": their length is tested, and none of them is read
+abbrev pub tabulateRows : ℕ → List ℕ → List ℕ → ℕ → ℕ → List ℕ → List Row
+tabulateRows n o c used m bytes =
+    flagCount n ∷ tableLength n bytes ∷ order n o ∷ cells c ∷ records n o c used ∷ node used m ∷ []
+
+-- "open tests neither 6 nor 7"
+abbrev pub openRows : ℕ → List ℕ → List ℕ → List Row
+openRows n o c = flagCount n ∷ order n o ∷ cells c ∷ []
+
+abbrev pub constantRows : ℕ → List ℕ → List ℕ → ℕ → ℕ → List Row
+constantRows n o c used v = flagCount n ∷ order n o ∷ cells c ∷ records n o c used ∷ valueArgument v ∷ []
+
+abbrev pub flagRows : ℕ → List ℕ → List ℕ → ℕ → ℕ → List Row
+flagRows n o c used i =
+    flagCount n ∷ order n o ∷ cells c ∷ records n o c used ∷ flagArgument n i ∷ result (needed n o c used (flagTable n i)) (free c used) ∷ []
+
+-- the table that a join makes of nodes f and g; that choose makes of f, g and h; that fix makes of m
+abbrev pub joined : ℕ → List ℕ → ℕ → ℕ → ℕ → List ℕ
+joined n c code f g = joinTable n code (tableOf n c f) (tableOf n c g)
+
+abbrev pub chosen : ℕ → List ℕ → ℕ → ℕ → ℕ → List ℕ
+chosen n c f g h = chooseTable n (tableOf n c f) (tableOf n c g) (tableOf n c h)
+
+abbrev pub fixed : ℕ → List ℕ → ℕ → ℕ → ℕ → List ℕ
+fixed n c m i b = cofactor i b (tableOf n c m)
+
+abbrev pub joinRows : ℕ → List ℕ → List ℕ → ℕ → ℕ → ℕ → ℕ → List Row
+joinRows n o c used code f g =
+    flagCount n
+    ∷ order n o
+    ∷ cells c
+    ∷ records n o c used
+    ∷ node used f
+    ∷ node used g
+    ∷ operatorArgument code
+    ∷ result (needed n o c used (joined n c code f g)) (free c used)
+    ∷ []
+
+abbrev pub chooseRows : ℕ → List ℕ → List ℕ → ℕ → ℕ → ℕ → ℕ → List Row
+chooseRows n o c used f g h =
+    flagCount n
+    ∷ order n o
+    ∷ cells c
+    ∷ records n o c used
+    ∷ node used f
+    ∷ node used g
+    ∷ node used h
+    ∷ result (needed n o c used (chosen n c f g h)) (free c used)
+    ∷ []
+
+abbrev pub fixRows : ℕ → List ℕ → List ℕ → ℕ → ℕ → ℕ → ℕ → List Row
+fixRows n o c used m i b =
+    flagCount n
+    ∷ order n o
+    ∷ cells c
+    ∷ records n o c used
+    ∷ node used m
+    ∷ flagArgument n i
+    ∷ valueArgument b
+    ∷ result (needed n o c used (fixed n c m i b)) (free c used)
+    ∷ []
+
+abbrev pub packRows : ℕ → List ℕ → List ℕ → List ℕ → List Row
+packRows n t c w =
+    flagCount n ∷ tableLength n t ∷ tableRead t ∷ cells c ∷ workspace n w ∷ result (size (packed n t) t) (room c) ∷ []

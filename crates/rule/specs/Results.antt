@@ -1,0 +1,55 @@
+-- The tables that store calls make, and the records that a result needs (document 01, "The store" and "The book beside the store").
+-- Assumes nothing.
+use mathlib.Core.Bool.{not, cond}
+use mathlib.Core.List.{List, map}
+use Prim.Native.Nat.{ℕ, _+_, _*_, _-_, _/_, _%_, _^_}
+use lib.Dec.{eqb}
+use lib.ListN.{length, getD}
+use Rattle.rule.specs.Bits.{bit, below}
+use Rattle.rule.specs.Tests.{keep, among}
+use Rattle.rule.specs.Table.{tabled}
+use Rattle.rule.specs.Level.{nodesOf}
+use Rattle.rule.specs.Order.{flags}
+use Rattle.rule.specs.Cells.{room}
+use Rattle.rule.specs.Diagram.{tableOf}
+
+-- "the constant"
+abbrev pub constantTable : ℕ → ℕ → List ℕ
+constantTable n v = tabled n (λ r. v)
+
+-- "bit i of r for flag i"
+abbrev pub flagTable : ℕ → ℕ → List ℕ
+flagTable n i = tabled n (λ r. bit r i)
+
+-- The sixteen operators. "its four digits answer for (first, second) = 00, 01, 10, 11 from the left"
+abbrev pub digit : ℕ → ℕ → ℕ → ℕ
+digit code a b = code / 2 ^ (3 - (2 * a + b)) % 2
+
+-- Apply. "the operator's digit for row r of the two rules"
+abbrev pub joinTable : ℕ → ℕ → List ℕ → List ℕ → List ℕ
+joinTable n code f g = tabled n (λ r. digit code (getD f r 0) (getD g r 0))
+
+-- If-then-else. "row r of the second rule where the first has 1 there, else of the third"
+abbrev pub chooseTable : ℕ → List ℕ → List ℕ → List ℕ → List ℕ
+chooseTable n f g h = tabled n (λ r. cond (eqb (getD f r 0) 1) (getD g r 0) (getD h r 0))
+
+-- (Restrict: "the rule's row whose number is r with bit i set to the fixed value" is `cofactor` of Table.antt.)
+
+-- the tables of the used records
+abbrev pub recordTables : ℕ → List ℕ → ℕ → List (List ℕ)
+recordTables n c used = map (λ k. tableOf n c (k + 2)) (below used)
+
+-- "The records that a result needs are those of its own diagram that the store lacks": by their tables, and their number
+unfoldable pub lacking : ℕ → List ℕ → List ℕ → ℕ → List ℕ → List (List ℕ)
+lacking n order c used t = keep (λ u. not (among u (recordTables n c used))) (nodesOf (flags n order) t)
+
+abbrev pub needed : ℕ → List ℕ → List ℕ → ℕ → List ℕ → ℕ
+needed n order c used t = length (lacking n order c used t)
+
+-- the records that are free
+abbrev pub free : List ℕ → ℕ → ℕ
+free c used = room c - used
+
+-- "its root is its last record, or an end node when there are none": the root of the diagram of t that has so many records
+abbrev pub rootBy : ℕ → List ℕ → ℕ
+rootBy nodes t = cond (eqb nodes 0) (getD t 0 0) (nodes + 1)

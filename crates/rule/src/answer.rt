@@ -1,0 +1,77 @@
+// The answers of the calls. Each is accepted with its values, or refused under a number of the paper's table.
+// Where a value holds an array, the answer stands beside it in a struct.
+use crate::node::Node;
+use crate::order::Order;
+use crate::store::Store;
+
+// Build: the node count and the root.
+pub enum Drawn {
+    Diagram { nodes: u16, root: Node },
+    Refused(u8),
+}
+
+// Check: the node count.
+pub enum Counted {
+    Nodes(u16),
+    Refused(u8),
+}
+
+// A call that hands back no value of its own.
+pub enum Done {
+    Accepted,
+    Refused(u8),
+}
+
+// Open and tabulate: the state beside the answer.
+pub struct Passed {
+    pub store: Store,
+    pub answer: Done,
+}
+
+// A call that makes a rule: its node.
+pub enum Made {
+    Rule(Node),
+    Refused(u8),
+}
+
+// Constant, flag, join, choose and fix: the state beside the node.
+pub struct Stored {
+    pub store: Store,
+    pub answer: Made,
+}
+
+// A walk's answer, 0 or 1.
+pub enum Said {
+    Answer(u8),
+    Refused(u8),
+}
+
+// Walk: the state beside the answer.
+pub struct Walked {
+    pub store: Store,
+    pub answer: Said,
+}
+
+// Pack: the order, all 0 where it is refused, beside the node count and the root.
+pub struct Packed {
+    pub order: Order,
+    pub answer: Drawn,
+}
+
+// What the reader finds: n, the record count and the root.
+pub enum Loaded {
+    Rule { n: u8, records: u16, root: Node },
+    Refused(u8),
+}
+
+// Read: the order, all 0 where it is refused, beside what was found.
+pub struct Read {
+    pub order: Order,
+    pub answer: Loaded,
+}
+
+// Write: the file's length.
+pub enum Written {
+    Bytes(usize),
+    Refused(u8),
+}
