@@ -4,18 +4,16 @@
 //! examples, writes test vectors, lists a table and reads rule files. "The paper" below is
 //! document 01; `Err` holds the number of a refusal. Build: rustc -O --edition 2021 second.rs
 
-use std::collections::HashSet;
 use std::io::Read;
-use std::path::Path;
 
 /// The most cells that may be lent, and those lent to the reader here; a record takes three.
 const CELLS: usize = 3072;
 
 /// A node of a tree or diagram; its low and high sons are places in `Diagram::nodes`.
-#[derive(Clone, Copy, PartialEq)]
+#[derive(Clone, Copy, Debug, PartialEq)]
 enum Node {
     Deleted,
-    Terminal(u8),
+    Terminal(usize),
     Internal(usize, [usize; 2]),
 }
 
@@ -27,12 +25,12 @@ struct Diagram {
 impl Diagram {
     /// Adds the decision tree that asks the flags of `order`, sons before their parent, and gives
     /// its root; `row` has the answers taken above it. Every row ends in a terminal of its own.
-    fn grow(&mut self, table: &[u8], order: &[usize], row: usize) -> usize {
+    fn grow(&mut self, table: &[usize], order: &[usize], row: usize) -> usize {
         let node = match order.split_first() {
             None => Node::Terminal(table[row]),
             Some((&flag, later)) => {
                 let low = self.grow(table, later, row);
-                let high = self.grow(table, later, row | 1 << flag);
+                let high = self.grow(table, later, row | (1 << flag));
                 Node::Internal(flag, [low, high])
             }
         };
@@ -51,35 +49,24 @@ impl Diagram {
         self.root = if self.root == b { a } else { self.root };
     }
 
-    /// Applies the two steps to each node, sons before parents, and tells whether one applied.
-    /// Going that way, two nodes are equivalent when they are equal: "if we collapse from the
-    /// terminals to the root, we need only check whether the sons are equal" (document 001).
-    fn collapse(&mut self) -> bool {
-        let mut applied = false;
-        for b in 0..self.nodes.len() {
-            let instead = match self.nodes[b] {
-                Node::Deleted => None,
-                Node::Internal(_, [low, high]) if low == high => Some(low),
-                node => (0..b).find(|&a| self.nodes[a] == node),
-            };
-            if let Some(a) = instead {
-                self.delete(b, a);
-                applied = true;
-            }
-        }
-        applied
+    /// The first node b, from a place on, to which a step applies, and the node a that takes its
+    /// edges. Sons stand before parents, so equivalent nodes are equal ones here: "if we collapse
+    /// from the terminals to the root, we need only check whether the sons are equal".
+    fn step(&self, from: usize) -> Option<(usize, usize)> {
+        (from..self.nodes.len()).find_map(|b| match self.nodes[b] {
+            Node::Deleted => None,
+            Node::Internal(_, [low, high]) if low == high => Some((b, low)),
+            node => self.nodes[..b].iter().position(|&a| a == node).map(|a| (b, a)),
+        })
     }
 
     /// "A walk starts at the root and takes low or high by the row until an end node."
-    fn walk(&self, row: usize) -> u8 {
-        let mut at = self.root;
-        loop {
-            match self.nodes[at] {
-                Node::Deleted => panic!("an edge leads to a deleted node"),
-                Node::Terminal(answer) => return answer,
-                Node::Internal(flag, sons) => at = sons[row >> flag & 1],
-            }
+    fn walk(&self, row: usize) -> Node {
+        let mut node = self.nodes[self.root];
+        while let Node::Internal(flag, sons) = node {
+            node = self.nodes[sons[(row >> flag) & 1]];
         }
+        node
     }
 }
 
@@ -92,21 +79,25 @@ struct Drawing {
 }
 
 /// Draws the table under the order: the tree, collapsed until neither step applies.
-fn draw(table: &[u8], order: &[usize]) -> Drawing {
+fn draw(table: &[usize], order: &[usize]) -> Drawing {
     let mut diagram = Diagram { nodes: Vec::new(), root: 0 };
     diagram.root = diagram.grow(table, order, 0);
-    // Document 001: the tree "has 2^(n+1) - 1 nodes".
-    assert_eq!(diagram.nodes.len() + 1, 2 << order.len());
-    while diagram.collapse() {}
-    for (row, &answer) in table.iter().enumerate() {
-        assert_eq!(diagram.walk(row), answer, "row {row} after the collapse");
+    assert_eq!(diagram.nodes.len() + 1, 2 << order.len(), "a tree has 2^(n+1) - 1 nodes");
+    let mut from = 0;
+    while let Some((b, a)) = diagram.step(from) {
+        diagram.delete(b, a);
+        from = b; // before b no step applied, and deleting b altered nothing there
     }
-    let asks = |node: &Node, flag| matches!(node, Node::Internal(asked, _) if *asked == flag);
-    let count = |flag| diagram.nodes.iter().filter(|node| asks(node, flag)).count();
+    assert_eq!(diagram.step(0), None, "a step still applies");
+    for (row, &answer) in table.iter().enumerate() {
+        assert_eq!(diagram.walk(row), Node::Terminal(answer), "row {row} after the collapse");
+    }
+    let asks = |node: &Node, i: usize| matches!(node, Node::Internal(flag, _) if *flag == i);
+    let count = |i: usize| diagram.nodes.iter().filter(|node| asks(node, i)).count();
     let flags: Vec<usize> = (0..order.len()).map(count).collect();
     let nodes = flags.iter().sum();
     // "its root is its last record, or an end node when there are none"; record k is node k+2.
-    let root = if nodes == 0 { diagram.walk(0).into() } else { nodes + 1 };
+    let root = if nodes == 0 { table[0] } else { nodes + 1 };
     Drawing { order: order.to_vec(), nodes, flags, root }
 }
 
@@ -119,13 +110,13 @@ fn orders(n: usize, begun: &[usize]) -> Vec<Vec<usize>> {
     next.flat_map(|flag| orders(n, &[begun, &[flag]].concat())).collect()
 }
 
-fn flag_count(table: &[u8]) -> usize {
+fn flag_count(table: &[usize]) -> usize {
     table.len().trailing_zeros() as usize
 }
 
 /// "The order has the fewest nodes of all n! orders; of several, the one first by dictionary
 /// comparison": min_by_key gives the first of equals.
-fn draw_packed(table: &[u8]) -> Drawing {
+fn draw_packed(table: &[usize]) -> Drawing {
     let drawings = orders(flag_count(table), &[]).into_iter().map(|order| draw(table, &order));
     drawings.min_by_key(|drawing| drawing.nodes).expect("every n has an order")
 }
@@ -135,28 +126,10 @@ fn refuse(tests: &[(usize, bool)]) -> Result<(), usize> {
     tests.iter().find(|(_, applies)| *applies).map_or(Ok(()), |(number, _)| Err(*number))
 }
 
-/// Not "a flag missing or twice, or a place from n on not 0": n places in which none of n flags
-/// is missing have none twice.
+/// Not "a flag missing or twice, or a place from n on not 0"; if none is missing, none is twice.
 fn is_order(order: &[usize], n: usize) -> bool {
     (0..n).all(|flag| order.iter().take(n).any(|&place| place == flag))
         && order.iter().skip(n).all(|&place| place == 0)
-}
-
-type Order = [usize; 10];
-
-/// Build if an order is given, else pack; only pack has a workspace. "Memory calls test downwards".
-fn make(n: usize, table: &[u8], cells: usize, order: Option<Order>, workspace: usize) -> Result<Drawing, usize> {
-    refuse(&[
-        (1, n > 10),
-        (2, table.len() != 1 << n),
-        (3, table.iter().any(|&byte| byte > 1)),
-        (4, matches!(order, Some(order) if !is_order(&order, n))),
-        (5, cells % 3 != 0 || cells > CELLS),
-        (8, order.is_none() && workspace < 3usize.pow(n as u32)),
-    ])?;
-    let drawing = order.map_or_else(|| draw_packed(table), |order| draw(table, &order[..n]));
-    refuse(&[(10, drawing.nodes > cells / 3)])?;
-    Ok(drawing)
 }
 
 /// The next field of a file; 11 when it "runs past the end".
@@ -171,16 +144,15 @@ fn take<'a>(rest: &mut &'a [u8], length: usize) -> Result<&'a [u8], usize> {
 /// flag, low, high. Children have smaller numbers than parents and the root is the last record,
 /// so all are reached when each but the last is the child of a later one.
 fn is_diagram(records: &[[usize; 3]], order: &[usize]) -> bool {
-    let place = |flag| order.iter().position(|&at| at == flag);
+    let place = |flag: usize| order.iter().position(|&at| at == flag);
     (0..records.len()).all(|k| {
         let [flag, low, high] = records[k];
         let later = |child: usize| child < 2 || place(records[child - 2][0]) > place(flag);
-        let mut parents = records[k + 1..].iter();
         flag < order.len()
             && low != high
             && [low, high].iter().all(|&child| child < k + 2 && later(child))
             && !records[..k].contains(&records[k])
-            && (k + 1 == records.len() || parents.any(|parent| parent[1..].contains(&(k + 2))))
+            && (k + 1 == records.len() || records[k..].iter().any(|r| r[1..].contains(&(k + 2))))
     })
 }
 
@@ -189,48 +161,42 @@ fn is_diagram(records: &[[usize; 3]], order: &[usize]) -> bool {
 fn read_file(file: &[u8]) -> Result<String, usize> {
     let rest = &mut &file[..];
     let map = take(rest, 1)?[0];
-    let stands = |bit: usize| map >> bit & 1 == 1;
-    refuse(&[(12, map >> 5 != 0 || stands(3) && stands(4))])?;
-    let n = if stands(0) { take(rest, 1)?[0].into() } else { 0 };
+    let stands = |bit: usize| (map >> bit) & 1 == 1;
+    refuse(&[(12, map >> 5 != 0 || (stands(3) && stands(4)))])?;
+    let n = if stands(0) { usize::from(take(rest, 1)?[0]) } else { 0 };
     refuse(&[(1, n > 10)])?;
     let mut order: Vec<usize> = (0..n).collect();
     if stands(1) {
-        order = take(rest, n)?.iter().map(|&flag| flag.into()).collect();
+        order = take(rest, n)?.iter().map(|&flag| usize::from(flag)).collect();
         refuse(&[(4, !is_order(&order, n))])?;
     }
     let mut label = 0;
     if stands(2) {
-        label = take(rest, 1)?[0].into();
+        label = usize::from(take(rest, 1)?[0]);
         refuse(&[(13, label == 0)])?;
         let text = take(rest, label)?;
         refuse(&[(13, text.iter().any(|byte| !(0x20..=0x7E).contains(byte)))])?;
     }
     let mut records = Vec::new();
     if stands(3) {
-        let two = |bytes: &[u8]| bytes[0] as usize + 256 * bytes[1] as usize; // "low byte first"
+        let two = |bytes: &[u8]| usize::from(bytes[0]) + 256 * usize::from(bytes[1]);
         let count = two(take(rest, 2)?);
         refuse(&[(6, count == 0), (10, count > CELLS / 3)])?;
-        let record = |bytes: &[u8]| [bytes[0].into(), two(&bytes[1..]), two(&bytes[3..])];
+        let record = |bytes: &[u8]| [usize::from(bytes[0]), two(&bytes[1..]), two(&bytes[3..])];
         records = take(rest, 5 * count)?.chunks(5).map(record).collect();
     }
     refuse(&[(11, !rest.is_empty()), (6, !is_diagram(&records, &order))])?;
     let count = records.len();
-    let root = if count == 0 { stands(4).into() } else { count + 1 };
-    let order = phrase("order", &order);
-    Ok(format!("n {n} {order} records {count} root {root} label {label}"))
+    let root = if count == 0 { usize::from(stands(4)) } else { count + 1 };
+    Ok(format!("n {n} {} records {count} root {root} label {label}", phrase("order", &order)))
 }
 
-/// The bytes of a line of hexadecimal pairs, or None if it is no such line.
-fn hexadecimal(line: &str) -> Option<Vec<u8>> {
+/// The answer to a file given as a line of hexadecimal pairs, or None if it is no such line.
+fn read_line(line: &str) -> Option<String> {
     let is_pair = |pair: &str| pair.len() == 2 && pair.bytes().all(|b| b.is_ascii_hexdigit());
     let byte = |pair| u8::from_str_radix(pair, 16).ok().filter(|_| is_pair(pair));
-    line.split_whitespace().map(byte).collect()
-}
-
-/// The answers to lines of hexadecimal pairs, or None if there is another line among them.
-fn read_files(input: &[u8]) -> Option<String> {
-    let answer = |line| Some(or_refused(read_file(&hexadecimal(line)?)) + "\n");
-    std::str::from_utf8(input).ok()?.lines().map(answer).collect()
+    let file: Option<Vec<u8>> = line.split_whitespace().map(byte).collect();
+    file.map(|file| or_refused(read_file(&file)))
 }
 
 /// "It reads standard input up to the first byte 0A, or to the end"; each byte is a row.
@@ -242,13 +208,11 @@ fn list(input: &[u8]) -> Result<String, usize> {
         (3, line.iter().any(|byte| !b"01".contains(byte))),
         (8, line.len() > 256), // nine or ten flags
     ])?;
-    let table: Vec<u8> = line.iter().map(|byte| byte - b'0').collect();
+    let table: Vec<usize> = line.iter().map(|byte| usize::from(byte - b'0')).collect();
     let Drawing { order, nodes, flags, .. } = draw_packed(&table);
-    let mut lines = vec![phrase("flags", &[flags.len()]), phrase("nodes", &[nodes])];
-    lines.push(phrase("order", &order));
-    lines.extend(flags.iter().enumerate().map(|(flag, &count)| phrase("flag", &[flag, count])));
-    lines.push(phrase("yes", &[table.iter().filter(|&&answer| answer == 1).count()]));
-    Ok(lines.join("\n"))
+    let head = format!("flags {}\nnodes {nodes}\n{}\n", flags.len(), phrase("order", &order));
+    let each = flags.iter().enumerate().map(|(flag, count)| format!("flag {flag} {count}\n"));
+    Ok(head + &each.collect::<String>() + &phrase("yes", &[table.iter().sum()]))
 }
 
 /// A word with its numbers behind it; the bare word when there are none.
@@ -256,8 +220,8 @@ fn phrase(word: &str, numbers: &[usize]) -> String {
     numbers.iter().fold(word.to_string(), |text, number| format!("{text} {number}"))
 }
 
-fn digits<T: ToString>(numbers: &[T]) -> String {
-    numbers.iter().map(T::to_string).collect()
+fn digits(numbers: &[usize]) -> String {
+    numbers.iter().map(usize::to_string).collect()
 }
 
 fn or_refused(answer: Result<String, usize>) -> String {
@@ -266,7 +230,7 @@ fn or_refused(answer: Result<String, usize>) -> String {
 
 /// What is asked, and those parts of the answer that the papers name: `build N TABLE CELLS ORDER`,
 /// `pack N TABLE CELLS WORKSPACE`, `list TABLE` or `file BYTES`; the table `01*8` is 01 eight
-/// times. Ten flags are tried by build and file: pack would have 10! orders to draw.
+/// times. Ten flags are tried by build only: pack would have 10! orders to draw.
 const EXAMPLES: &[(&str, &str)] = &[
     // Document 01, settled examples.
     ("pack 0 1 3072 1", "nodes 0; root 1"),
@@ -290,10 +254,7 @@ const EXAMPLES: &[(&str, &str)] = &[
     ("build 10 01*512 3072 0123456789", "nodes 1"),
     ("build 11 01*1024 3072 0123456789", "refused 1"),
     ("pack 11 01*1024 3072 177147", "refused 1"),
-    ("file 01 0A", "n 10 order 0 1 2 3 4 5 6 7 8 9 records 0 root 0 label 0"),
-    ("file 01 0B", "refused 1"),
     ("pack 3 00010111 3072 26", "refused 8"),
-    ("build 3 00010111 4 012", "refused 5"),
     ("pack 3 00010111 4 27", "refused 5"),
     ("pack 3 01101001 15 27", "nodes 5"),
     ("pack 3 01101001 12 27", "refused 10"),
@@ -305,52 +266,53 @@ const EXAMPLES: &[(&str, &str)] = &[
     ("list 1", "flags 0\nnodes 0\norder\nyes 1"),
     ("list 0*1025", "refused 1"),
     ("list ", "refused 2"),
-    ("list 0*1023", "refused 2"),
     ("list 02", "refused 3"),
     ("list 0*512", "refused 8"),
-    ("list 0*1024", "refused 8"),
     // Document 001, Fig. 2 (a) and (b); their orders are listed there from the end nodes upward.
     ("build 4 0001000100011111 3072 2301", "nodes 4"),
     ("build 4 0001000100011111 3072 2031", "nodes 6"),
     // Document 002, page 26: x1x2 + x2x3 + x3x4, the first order being better (counted by hand).
     ("build 4 0001001100011111 3072 0123", "nodes 6"),
     ("build 4 0001001100011111 3072 0312", "nodes 7"),
-    // Page 30: v2 to v6; 36: a, b, C and D; 38: v7 and v8, v9 and v10; 39: v4, v5, v11 and v12.
+    // Page 30: v2 to v6; 36: a, b, C and D; 38: v9 and v10; 39: v4, v5, v11 and v12.
     ("build 3 10111101 3072 012", "nodes 5; flags 1 2 2"),
     ("build 4 0000010110001101 3072 0123", "nodes 4; flags 1 1 1 1"),
-    ("build 2 0100 3072 01", "nodes 2; flags 1 1"),
     ("build 2 1011 3072 01", "nodes 2; flags 1 1"),
     ("build 3 11111001 3072 012", "nodes 4; flags 1 2 1"),
 ];
 
-/// The characters that a table word stands for.
-fn spell_out(word: &str) -> String {
-    let (group, times) = word.split_once('*').unwrap_or((word, "1"));
-    group.repeat(times.parse().expect("a number of times"))
+/// The digits of a word, as often as it says.
+fn numbers(word: &str) -> Vec<usize> {
+    let (digits, times) = word.split_once('*').unwrap_or((word, "1"));
+    let digits: Vec<usize> = digits.bytes().map(|byte| usize::from(byte - b'0')).collect();
+    digits.repeat(times.parse().expect("a number of times"))
 }
 
-fn table_of(word: &str) -> Vec<u8> {
-    spell_out(word).bytes().map(|byte| byte - b'0').collect()
-}
-
-/// "An order is kept in ten bytes, the places from n on being 0."
-fn order_of(digits: &str) -> Order {
-    let flag = |place| digits.as_bytes().get(place).map_or(0, |digit| digit - b'0');
-    std::array::from_fn(|place| flag(place).into())
-}
-
+/// Build and pack go by the refusal table: they "test downwards and give the first that applies".
 fn answer(ask: &str) -> Result<String, usize> {
     let words: Vec<&str> = ask.split(' ').collect();
-    let number = |at: usize| words[at].parse().expect("a number");
+    let number = |at: usize| words[at].parse::<usize>().expect("a number");
     let (order, workspace) = match words[0] {
-        "list" => return list(spell_out(words[1]).as_bytes()),
-        "file" => return read_file(&hexadecimal(&ask[5..]).expect("hexadecimal pairs")),
-        "build" => (Some(order_of(words[4])), 0),
+        "list" => return list(digits(&numbers(words[1])).as_bytes()),
+        "file" => return Ok(read_line(&ask[5..]).expect("hexadecimal pairs")),
+        // "An order is kept in ten bytes, the places from n on being 0."
+        "build" => (Some([numbers(words[4]), vec![0; 10 - words[4].len()]].concat()), 0),
         _ => (None, number(4)),
     };
-    let drawing = make(number(1), &table_of(words[2]), number(3), order, workspace)?;
-    let (order, flags) = (phrase("order", &drawing.order), phrase("flags", &drawing.flags));
-    Ok(format!("nodes {}; {order}; {flags}; root {}", drawing.nodes, drawing.root))
+    let (n, table, cells) = (number(1), numbers(words[2]), number(3));
+    refuse(&[
+        (1, n > 10),
+        (2, table.len() != 1 << n),
+        (3, table.iter().any(|&byte| byte > 1)),
+        (4, matches!(&order, Some(order) if !is_order(order, n))),
+        (5, cells % 3 != 0 || cells > CELLS),
+        (8, order.is_none() && workspace < 3usize.pow(n as u32)),
+    ])?;
+    let drawing = order.map_or_else(|| draw_packed(&table), |order| draw(&table, &order[..n]));
+    refuse(&[(10, drawing.nodes > cells / 3)])?;
+    let Drawing { order, nodes, flags, root } = drawing;
+    let (order, flags) = (phrase("order", &order), phrase("flags", &flags));
+    Ok(format!("nodes {nodes}; {order}; {flags}; root {root}"))
 }
 
 /// Gives the exit code: 0 if every example agrees.
@@ -387,58 +349,53 @@ impl Dice {
     }
 
     /// A table in which about `eighths` of eight rows say yes.
-    fn table(&mut self, n: usize, eighths: usize) -> Vec<u8> {
+    fn table(&mut self, n: usize, eighths: usize) -> Vec<usize> {
         table_from(n, |_| self.below(8) < eighths)
     }
 }
 
-fn table_from(n: usize, rule: impl FnMut(usize) -> bool) -> Vec<u8> {
-    (0..1 << n).map(rule).map(u8::from).collect()
+fn table_from(n: usize, rule: impl FnMut(usize) -> bool) -> Vec<usize> {
+    (0..1 << n).map(rule).map(usize::from).collect()
 }
 
 /// The table of n flags in which flag `flags[i]` plays flag i of the given table.
-fn recast(table: &[u8], n: usize, flags: &[usize]) -> Vec<u8> {
-    let seen = |row: usize| (0..flags.len()).map(|i| (row >> flags[i] & 1) << i).sum::<usize>();
+fn recast(table: &[usize], n: usize, flags: &[usize]) -> Vec<usize> {
+    let seen = |row: usize| (0..flags.len()).map(|i| ((row >> flags[i]) & 1) << i).sum::<usize>();
     table_from(n, |row| table[seen(row)] == 1)
 }
 
-/// Constants, parity, the thresholds "at least k of n", and with the flags shuffled: multiplexers,
-/// sums of pairs and tables that ignore flags.
-fn tables_with_form(n: usize, dice: &mut Dice) -> Vec<Vec<u8>> {
-    let mut tables = vec![vec![0; 1 << n], vec![1; 1 << n]];
-    tables.push(table_from(n, |row| row.count_ones() % 2 == 1));
-    tables.extend((1..=n).map(|k| table_from(n, |row| row.count_ones() as usize >= k)));
+/// Parity, the thresholds "at least k of n" from always to never and, with the flags shuffled,
+/// multiplexers, sums of pairs and tables that ignore flags.
+fn tables_with_form(n: usize, dice: &mut Dice) -> Vec<Vec<usize>> {
+    let mut tables = vec![table_from(n, |row| row.count_ones() % 2 == 1)];
+    tables.extend((0..=n as u32 + 1).map(|k| table_from(n, |row| row.count_ones() >= k)));
     let selects = if n < 4 { 1 } else { 2 };
-    let multiplexer = table_from(n, |row| row >> selects >> row % (1 << selects) & 1 == 1);
-    let pairs = table_from(n, |row| row & row >> 1 & 0b010101 != 0);
+    let multiplexer = table_from(n, |row| (row >> selects >> (row % (1 << selects))) & 1 == 1);
+    let pairs = table_from(n, |row| row & (row >> 1) & 0b010101 != 0);
     for _ in 0..4 {
         let flags = dice.order(n);
-        tables.push(recast(&multiplexer, n, &flags));
-        tables.push(recast(&pairs, n, &flags));
+        tables.extend([&multiplexer, &pairs].map(|table| recast(table, n, &flags)));
         tables.extend((1..n).map(|kept| recast(&dice.table(kept, 4), n, &flags[..kept])));
     }
     tables
 }
 
 /// The tables of the vectors, each once: the paper's, all of up to two flags, and others.
-fn vector_tables(dice: &mut Dice) -> Vec<Vec<u8>> {
+fn vector_tables(dice: &mut Dice) -> Vec<Vec<usize>> {
     let settled = "1 00 01 0011 00010111 01101001 0001000100011111 00100101 0000010100110111";
-    let mut tables: Vec<Vec<u8>> = settled.split(' ').map(table_of).collect();
+    let mut tables: Vec<Vec<usize>> = settled.split(' ').map(numbers).collect();
     for n in 0..=2 {
-        tables.extend((0..1 << (1 << n)).map(|all| table_from(n, |row| all >> row & 1 == 1)));
+        tables.extend((0..1u32 << (1 << n)).map(|all| table_from(n, |row| (all >> row) & 1 == 1)));
     }
     (3..=6).for_each(|n| tables.extend(tables_with_form(n, dice)));
-    for round in 0..400 {
-        let eighths = [1, 2, 4, 6, 7][dice.below(5)];
-        tables.push(dice.table(3 + round % 4, eighths));
-    }
-    let mut met = HashSet::new();
+    tables.extend((0..400).map(|i| dice.table(3 + i % 4, [1, 2, 4, 6, 7][i % 5])));
+    let mut met = std::collections::HashSet::new();
     tables.retain(|table| met.insert(table.clone()));
     tables.truncate(400);
     tables
 }
 
-fn vectors(directory: &Path) -> std::io::Result<()> {
+fn vectors(directory: &str) -> std::io::Result<()> {
     let mut dice = Dice(0x0B5E_55ED_CAFE_0001);
     let tables = vector_tables(&mut dice);
     let [mut pack_in, mut pack_out, mut build_in, mut build_out] = [(); 4].map(|_| String::new());
@@ -448,36 +405,36 @@ fn vectors(directory: &Path) -> std::io::Result<()> {
         pack_in += &format!("{}\n", digits(table));
         pack_out += &format!("nodes {nodes} {order} {flags}\n");
     }
-    let mut cases = Vec::new();
+    let mut case = |table: &[usize], order: &[usize]| {
+        let Drawing { nodes, flags, .. } = draw(table, order);
+        build_in += &format!("{} {}\n", digits(table), digits(order));
+        build_out += &format!("nodes {nodes} {}\n", phrase("flags", &flags));
+    };
     for table in tables.iter().filter(|table| table.len() <= 16).take(60) {
-        cases.extend(orders(flag_count(table), &[]).into_iter().map(|order| (table, order)));
+        orders(flag_count(table), &[]).iter().for_each(|order| case(table, order));
     }
     for table in tables.iter().filter(|table| table.len() > 16).cycle().take(200) {
-        cases.push((table, dice.order(flag_count(table))));
-    }
-    for (table, order) in cases {
-        let Drawing { nodes, flags, .. } = draw(table, &order);
-        build_in += &format!("{} {}\n", digits(table), digits(&order));
-        build_out += &format!("nodes {nodes} {}\n", phrase("flags", &flags));
+        case(table, &dice.order(flag_count(table)));
     }
     std::fs::create_dir_all(directory)?;
-    std::fs::write(directory.join("pack.in"), pack_in)?;
-    std::fs::write(directory.join("pack.out"), pack_out)?;
-    std::fs::write(directory.join("build.in"), build_in)?;
-    std::fs::write(directory.join("build.out"), build_out)
+    std::fs::write(format!("{directory}/pack.in"), pack_in)?;
+    std::fs::write(format!("{directory}/pack.out"), pack_out)?;
+    std::fs::write(format!("{directory}/build.in"), build_in)?;
+    std::fs::write(format!("{directory}/build.out"), build_out)
 }
 
 /// Gives the exit code, or None for any other use.
 fn run(words: &[&str]) -> Option<i32> {
-    let mut input = Vec::new();
-    if words == ["list"] || words == ["file"] {
-        std::io::stdin().read_to_end(&mut input).expect("standard input can be read");
-    }
+    let input = || std::io::stdin().lock().bytes().collect::<Result<Vec<u8>, _>>().expect("input");
     match words {
         ["check"] => return Some(check()),
-        ["vectors", directory] => vectors(Path::new(directory)).expect("DIR can be written"),
-        ["list"] => println!("{}", or_refused(list(&input))),
-        ["file"] => print!("{}", read_files(&input)?),
+        ["vectors", directory] => vectors(directory).expect("DIR can be written"),
+        ["list"] => println!("{}", or_refused(list(&input()))),
+        ["file"] => {
+            for line in String::from_utf8(input()).ok()?.lines() {
+                println!("{}", read_line(line)?);
+            }
+        }
         _ => return None,
     }
     Some(0)

@@ -1,9 +1,8 @@
 -- For every case of an answer the paper's number and values (document 01, "Where each form goes": "a definition gives this paper's number and values for
 -- every case of the enum, and the promises use that definition").
 -- Assumes nothing.
-use mathlib.Core.Path.{_≡_}
-use mathlib.Core.List.{List, [], _∷_, map}
-use Prim.Native.Nat.{ℕ, zero, suc}
+use mathlib.Core.List.{[], _∷_}
+use Rattle.rule.specs.Reply.{Reply, accepted, refused}
 use Rattle.rule.specs.declared.order.Order.{Order}
 use Rattle.rule.specs.declared.answer.Drawn.{Drawn}
 use Rattle.rule.specs.declared.answer.Drawn.the-variants as the-drawn
@@ -19,30 +18,6 @@ use Rattle.rule.specs.declared.answer.Loaded.{Loaded}
 use Rattle.rule.specs.declared.answer.Loaded.the-variants as the-loaded
 use Rattle.rule.specs.declared.answer.Written.{Written}
 use Rattle.rule.specs.declared.answer.Written.the-variants as the-written
-
--- what a call hands back, as the paper counts it: accepted with its values, or refused with its number and what stands in the values' place
-pub data Reply : Type 0 where
-  accepted : List ℕ → Reply
-  refused : ℕ → List ℕ → Reply
-
--- "A refusal hands back its number and zeros": the reply of a call that is refused under this number, 0 for none, and has these values where it is accepted
-abbrev pub reply : ℕ → List ℕ → Reply
-reply zero values = accepted values
-reply (suc k) values = refused (suc k) (map (λ v. 0) values)
-
--- the number of a reply, 0 where it is accepted
-abbrev pub numberOf : Reply → ℕ
-numberOf (accepted values) = 0
-numberOf (refused k values) = k
-
-abbrev pub Accepted : Reply → Type 0
-Accepted (accepted values) = Unit {0}
-Accepted (refused k values) = ⊥
-
--- what stands in a lent buffer after a call: `new` where it is accepted, and "It alters nothing lent" where it is refused
-abbrev pub leaves : {A : Type 0} → ℕ → A → A → A
-leaves zero new old = new
-leaves (suc k) new old = old
 
 -- ---- case by case
 
@@ -61,7 +36,7 @@ abbrev pub countedReply : Counted → Reply
 countedReply (the-counted.Nodes nodes) = accepted (nodes ∷ [])
 countedReply (the-counted.Refused k) = refused k (0 ∷ [])
 
--- open, tabulate: no value but the state and the lent buffers
+-- open, tabulate: no value beside the state and the lent buffers
 abbrev pub doneReply : Done → Reply
 doneReply the-done.Accepted = accepted []
 doneReply (the-done.Refused k) = refused k []

@@ -13,7 +13,7 @@ use Rattle.rule.specs.Order.{flags, level}
 abbrev pub width : ℕ
 width = 3
 
--- the cells of all the records that a diagram of ten flags can have: 1,024 records
+-- the most cells that may be lent
 abbrev pub mostCells : ℕ
 mostCells = 3072
 

@@ -6,10 +6,10 @@ use mathlib.Core.List.{List, [], _∷_, map}
 use Prim.Native.Nat.{ℕ, _-_}
 use Prim.Native.String.{String}
 use lib.Dec.{eqb}
-use lib.ListN.{take, replicate}
+use lib.ListN.{replicate}
 use Rattle.rule.specs.Tests.{each, same}
 use Rattle.rule.specs.Level.{levelCount, size}
-use Rattle.rule.specs.Order.{orders, packed}
+use Rattle.rule.specs.Order.{rising, orders, packed}
 use Rattle.rule.specs.Results.{rootBy}
 use Rattle.rule.specs.Files.{reading, readNumber, readValues}
 use Rattle.rule.specs.Listing.{text, flagsOf, rowsOf, askingPacked, listing}
@@ -34,7 +34,7 @@ pub data Example : Type 0 where
   inEach : String → ℕ → Example
   -- in the order the table has so many nodes
   under : String → String → ℕ → Example
-  -- the file is read: so many flags, so many nodes, this root
+  -- the file is read: so many flags in the rising order, so many nodes, this root
   file : List ℕ → ℕ → ℕ → ℕ → Example
   -- the listing of the table's line is this text
   lists : String → String → Example
@@ -51,7 +51,7 @@ holds (asks t v k) = eqb (askingPacked (flagsOf (digits t)) (digits t) v) k
 holds (inEach t k) = each (λ o. eqb (size o (digits t)) k) (orders (flagsOf (digits t)))
 holds (under t o k) = eqb (size (digits o) (digits t)) k
 holds (file f n k m) =
-    eqb (readNumber (reading lentCells f)) 0 && same (take 3 (readValues f (reading lentCells f))) (n ∷ k ∷ m ∷ [])
+    eqb (readNumber (reading lentCells f)) 0 && same (readValues f (reading lentCells f)) (n ∷ k ∷ m ∷ rising n)
 holds (lists t s) = same (listing (text t)) (text s)
 
 unfoldable pub examples : List Example

@@ -6,16 +6,13 @@ use mathlib.Core.List.{List, [], _∷_, _++_}
 use Prim.Native.Nat.{ℕ, zero, suc, _+_, _*_, _/_, _%_}
 use lib.Dec.{eqb, leb, ltb}
 use lib.ListN.{length, getD, take, drop, replicate}
-use Rattle.rule.specs.declared.order.Order.{Order}
-use Rattle.rule.specs.declared.answer.Read.{Read}
-use Rattle.rule.specs.declared.answer.Written.{Written}
 use Rattle.rule.specs.Bits.{bit}
 use Rattle.rule.specs.Tests.{each}
 use Rattle.rule.specs.Order.{flags, fitOrder, inPlaces, rising}
 use Rattle.rule.specs.Cells.{room, flagAt, lowAt, highAt, fitCells}
 use Rattle.rule.specs.Diagram.{diagram}
-use Rattle.rule.specs.Refusals.{Row, refusal, flagCount, order, cells, diagramRecords, node}
-use Rattle.rule.specs.Answers.{reply, leaves, loadedReply, writtenReply}
+use Rattle.rule.specs.Refusals.{Row, refusal, flagCount, orderPlaces, cells, diagramRecords, node}
+use Rattle.rule.specs.Reply.{Reply, reply, leaves}
 
 -- ---- numbers in bytes
 
@@ -146,7 +143,7 @@ abbrev pub readNumber : Outcome → ℕ
 readNumber (stop k) = k
 readNumber (go x) = 0
 
--- "it hands back n, the order, the record count and the root": the values of a file that is read, in `loadedReply`'s sequence
+-- "it hands back n, the order, the record count and the root": the values of a file that is read, in its reply's sequence
 abbrev pub readValues : List ℕ → Outcome → List ℕ
 readValues file (stop k) = 0 ∷ 0 ∷ 0 ∷ replicate 10 0
 readValues file (go x) = x .n ∷ x .count ∷ rootRead (getD file 0 0) (x .count) ∷ x .places
@@ -162,11 +159,11 @@ labelOf (stop k) = []
 labelOf (go x) = x .label
 
 -- read takes a file and cells
-pub record Reads (file c : List ℕ) (r : Read) (d : List ℕ) : Type 0 where
-  pub answer : loadedReply (r .order) (r .answer) ≡ reply (readNumber (reading c file)) (readValues file (reading c file))
+pub record Reads (file c : List ℕ) (r : Reply) (d : List ℕ) : Type 0 where
+  pub answer : r ≡ reply (readNumber (reading c file)) (readValues file (reading c file))
   pub cells : d ≡ readCells c (reading c file)
 
--- the label's part of a file that is read into cells like these
+-- the label of a file that is read into cells of this length: a file that the reader refuses has an empty one
 abbrev pub Label : List ℕ → List ℕ → List ℕ → Type 0
 Label file c part = part ≡ labelOf (reading c file)
 
@@ -202,7 +199,7 @@ fileOf n o c used root l =
 abbrev pub writeRows : ℕ → List ℕ → List ℕ → ℕ → ℕ → List ℕ → List ℕ → List Row
 writeRows n o c used root l bytes =
     flagCount n
-    ∷ order n o
+    ∷ orderPlaces n o
     ∷ cells c
     ∷ diagramRecords n o c used root
     ∷ node used root
@@ -211,7 +208,7 @@ writeRows n o c used root l bytes =
     ∷ []
 
 -- write takes n, an order, cells, used records, a root, a label and lent bytes, "hands back the file's length", and "leaves bytes past the file as found"
-pub record Writes (n : ℕ) (o c : List ℕ) (used root : ℕ) (l bytes : List ℕ) (r : Written) (after : List ℕ) : Type 0 where
-  pub answer : writtenReply r ≡ reply (refusal (writeRows n o c used root l bytes)) (length (fileOf n o c used root l) ∷ [])
+pub record Writes (n : ℕ) (o c : List ℕ) (used root : ℕ) (l bytes : List ℕ) (r : Reply) (after : List ℕ) : Type 0 where
+  pub answer : r ≡ reply (refusal (writeRows n o c used root l bytes)) (length (fileOf n o c used root l) ∷ [])
   pub bytes-are : after
       ≡ leaves (refusal (writeRows n o c used root l bytes)) (fileOf n o c used root l ++ drop (length (fileOf n o c used root l)) bytes) bytes

@@ -3,14 +3,17 @@ pub mod Tests
 pub mod Table
 pub mod Level
 pub mod Order
+pub mod Sets
 pub mod Cells
 pub mod Diagram
 pub mod Reduced
 pub mod Results
 pub mod Refusals
+pub mod Reply
 pub mod Answers
 pub mod Calls
 pub mod Files
 pub mod Listing
 pub mod History
+pub mod Demands
 pub mod Examples

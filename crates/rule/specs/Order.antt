@@ -21,9 +21,17 @@ flags n order = take n order
 unfoldable pub times : ℕ → List ℕ → ℕ
 times v l = length (keep (eqb v) l)
 
--- "An order names each flag once, .. the places from n on being 0": what refusal 4 tests
+-- "An order names each flag once"
+unfoldable pub eachOnce : ℕ → List ℕ → Bool
+eachOnce n order = each (λ v. eqb (times v (flags n order)) 1) (below n)
+
+-- "the places from n on being 0"
+unfoldable pub restZero : ℕ → List ℕ → Bool
+restZero n order = each (eqb 0) (drop n order)
+
+-- what refusal 4 tests
 unfoldable pub fitOrder : ℕ → List ℕ → Bool
-fitOrder n order = each (λ v. eqb (times v (flags n order)) 1) (below n) && each (eqb 0) (drop n order)
+fitOrder n order = eachOnce n order && restZero n order
 
 -- an order of flags in its ten places
 abbrev pub inPlaces : List ℕ → List ℕ

@@ -41,8 +41,8 @@ abbrev pub tableRead : List ℕ → Row
 tableRead t = (not (fitRows t), 3)
 
 -- "a flag missing or twice, or a place from n on not 0"
-abbrev pub order : ℕ → List ℕ → Row
-order n o = (not (fitOrder n o), 4)
+abbrev pub orderPlaces : ℕ → List ℕ → Row
+orderPlaces n o = (not (fitOrder n o), 4)
 
 -- "length no multiple of 3, or above 3,072"
 abbrev pub cells : List ℕ → Row
@@ -84,33 +84,33 @@ valueArgument v = (ltb 1 v, 9)
 abbrev pub result : ℕ → ℕ → Row
 result need have = (ltb have need, 10)
 
--- ---- the calls. Each is given n, an order, cells and used records, and then what the call itself takes.
+-- ---- the calls
 
 abbrev pub buildRows : ℕ → List ℕ → List ℕ → List ℕ → List Row
 buildRows n t o c =
-    flagCount n ∷ tableLength n t ∷ tableRead t ∷ order n o ∷ cells c ∷ result (size (flags n o) t) (room c) ∷ []
+    flagCount n ∷ tableLength n t ∷ tableRead t ∷ orderPlaces n o ∷ cells c ∷ result (size (flags n o) t) (room c) ∷ []
 
 abbrev pub checkRows : ℕ → List ℕ → List ℕ → ℕ → ℕ → List Row
-checkRows n o c used root = flagCount n ∷ order n o ∷ cells c ∷ diagramRecords n o c used root ∷ node used root ∷ []
+checkRows n o c used root = flagCount n ∷ orderPlaces n o ∷ cells c ∷ diagramRecords n o c used root ∷ node used root ∷ []
 
 abbrev pub walkRows : ℕ → List ℕ → List ℕ → ℕ → ℕ → ℕ → List Row
-walkRows n o c used m r = flagCount n ∷ order n o ∷ cells c ∷ records n o c used ∷ node used m ∷ rowArgument n r ∷ []
+walkRows n o c used m r = flagCount n ∷ orderPlaces n o ∷ cells c ∷ records n o c used ∷ node used m ∷ rowArgument n r ∷ []
 
 -- "tabulate a rule into lent bytes": their length is tested, and none of them is read
 abbrev pub tabulateRows : ℕ → List ℕ → List ℕ → ℕ → ℕ → List ℕ → List Row
 tabulateRows n o c used m bytes =
-    flagCount n ∷ tableLength n bytes ∷ order n o ∷ cells c ∷ records n o c used ∷ node used m ∷ []
+    flagCount n ∷ tableLength n bytes ∷ orderPlaces n o ∷ cells c ∷ records n o c used ∷ node used m ∷ []
 
 -- "open tests neither 6 nor 7"
 abbrev pub openRows : ℕ → List ℕ → List ℕ → List Row
-openRows n o c = flagCount n ∷ order n o ∷ cells c ∷ []
+openRows n o c = flagCount n ∷ orderPlaces n o ∷ cells c ∷ []
 
 abbrev pub constantRows : ℕ → List ℕ → List ℕ → ℕ → ℕ → List Row
-constantRows n o c used v = flagCount n ∷ order n o ∷ cells c ∷ records n o c used ∷ valueArgument v ∷ []
+constantRows n o c used v = flagCount n ∷ orderPlaces n o ∷ cells c ∷ records n o c used ∷ valueArgument v ∷ []
 
 abbrev pub flagRows : ℕ → List ℕ → List ℕ → ℕ → ℕ → List Row
 flagRows n o c used i =
-    flagCount n ∷ order n o ∷ cells c ∷ records n o c used ∷ flagArgument n i ∷ result (needed n o c used (flagTable n i)) (free c used) ∷ []
+    flagCount n ∷ orderPlaces n o ∷ cells c ∷ records n o c used ∷ flagArgument n i ∷ result (needed n o c used (flagTable n i)) (free c used) ∷ []
 
 -- the table that a join makes of nodes f and g; that choose makes of f, g and h; that fix makes of m
 abbrev pub joined : ℕ → List ℕ → ℕ → ℕ → ℕ → List ℕ
@@ -125,7 +125,7 @@ fixed n c m i b = cofactor i b (tableOf n c m)
 abbrev pub joinRows : ℕ → List ℕ → List ℕ → ℕ → ℕ → ℕ → ℕ → List Row
 joinRows n o c used code f g =
     flagCount n
-    ∷ order n o
+    ∷ orderPlaces n o
     ∷ cells c
     ∷ records n o c used
     ∷ node used f
@@ -137,7 +137,7 @@ joinRows n o c used code f g =
 abbrev pub chooseRows : ℕ → List ℕ → List ℕ → ℕ → ℕ → ℕ → ℕ → List Row
 chooseRows n o c used f g h =
     flagCount n
-    ∷ order n o
+    ∷ orderPlaces n o
     ∷ cells c
     ∷ records n o c used
     ∷ node used f
@@ -149,7 +149,7 @@ chooseRows n o c used f g h =
 abbrev pub fixRows : ℕ → List ℕ → List ℕ → ℕ → ℕ → ℕ → ℕ → List Row
 fixRows n o c used m i b =
     flagCount n
-    ∷ order n o
+    ∷ orderPlaces n o
     ∷ cells c
     ∷ records n o c used
     ∷ node used m

@@ -1,12 +1,12 @@
 -- The tables that store calls make, and the records that a result needs (document 01, "The store" and "The book beside the store").
 -- Assumes nothing.
-use mathlib.Core.Bool.{not, cond}
-use mathlib.Core.List.{List, map}
+use mathlib.Core.Bool.{true, false, not, cond}
+use mathlib.Core.List.{List, [], _∷_, map}
 use Prim.Native.Nat.{ℕ, _+_, _*_, _-_, _/_, _%_, _^_}
 use lib.Dec.{eqb}
 use lib.ListN.{length, getD}
 use Rattle.rule.specs.Bits.{bit, below}
-use Rattle.rule.specs.Tests.{keep, among}
+use Rattle.rule.specs.Tests.{keep, same, among}
 use Rattle.rule.specs.Table.{tabled}
 use Rattle.rule.specs.Level.{nodesOf}
 use Rattle.rule.specs.Order.{flags}
@@ -53,3 +53,13 @@ free c used = room c - used
 -- "its root is its last record, or an end node when there are none": the root of the diagram of t that has so many records
 abbrev pub rootBy : ℕ → List ℕ → ℕ
 rootBy nodes t = cond (eqb nodes 0) (getD t 0 0) (nodes + 1)
+
+-- the first of these nodes whose rule is t
+unfoldable pub firstWith : ℕ → List ℕ → List ℕ → List ℕ → ℕ
+firstWith n c t [] = 0
+firstWith n c t (m ∷ ms) = elim (same (tableOf n c m) t) [ true ↦ m | false ↦ firstWith n c t ms ]
+
+-- the node of a rule that a call makes: the one that the store has of it, or the last of the records that are added
+abbrev pub madeNode : ℕ → List ℕ → List ℕ → ℕ → List ℕ → ℕ
+madeNode n order c used t =
+    cond (eqb (needed n order c used t) 0) (firstWith n c t (below (used + 2))) (used + needed n order c used t + 1)

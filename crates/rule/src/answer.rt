@@ -1,8 +1,7 @@
 // The answers of the calls. Each is accepted with its values, or refused under a number of the paper's table.
-// Where a value holds an array, the answer stands beside it in a struct.
+// Where a value holds an array, the answer stands beside it in a struct. A store hands its state back beside the answer: see the crate store.
 use crate::node::Node;
 use crate::order::Order;
-use crate::store::Store;
 
 // Build: the node count and the root.
 pub enum Drawn {
@@ -22,34 +21,16 @@ pub enum Done {
     Refused(u8),
 }
 
-// Open and tabulate: the state beside the answer.
-pub struct Passed {
-    pub store: Store,
-    pub answer: Done,
-}
-
 // A call that makes a rule: its node.
 pub enum Made {
     Rule(Node),
     Refused(u8),
 }
 
-// Constant, flag, join, choose and fix: the state beside the node.
-pub struct Stored {
-    pub store: Store,
-    pub answer: Made,
-}
-
 // A walk's answer, 0 or 1.
 pub enum Said {
     Answer(u8),
     Refused(u8),
-}
-
-// Walk: the state beside the answer.
-pub struct Walked {
-    pub store: Store,
-    pub answer: Said,
 }
 
 // Pack: the order, all 0 where it is refused, beside the node count and the root.

@@ -1,9 +1,8 @@
-// The values that the engine's calls take and hand back (document 01): orders, nodes, a store's state, and the answer of each call.
+// The values that the engine's calls take and hand back (document 01): orders, nodes, and the answer of each call.
 // What they mean is in specs/, in the paper's sequence; every other crate's contracts cite those definitions.
 mod answer;
 mod node;
 mod order;
-mod store;
 
 pub use answer::Counted;
 pub use answer::Done;
@@ -11,12 +10,8 @@ pub use answer::Drawn;
 pub use answer::Loaded;
 pub use answer::Made;
 pub use answer::Packed;
-pub use answer::Passed;
 pub use answer::Read;
 pub use answer::Said;
-pub use answer::Stored;
-pub use answer::Walked;
 pub use answer::Written;
 pub use node::Node;
 pub use order::Order;
-pub use store::Store;

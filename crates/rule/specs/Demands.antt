@@ -1,0 +1,115 @@
+-- Demands 2 and 3, each as one statement over the outcomes of Calls.antt and Files.antt. (Demand 1 is the contracts themselves: no call has a condition,
+-- each gives its number and every lent buffer, and the check proves that it reads, writes and ends within what it was given.)
+-- Assumes nothing.
+use mathlib.Core.Path.{_≡_}
+use mathlib.Core.Logic.{_≢_, _↔_}
+use mathlib.Core.Bool.{true}
+use mathlib.Core.List.{List, [], _∷_, List·Memᴰ}
+use mathlib.Core.Option.{some}
+use Prim.Native.Nat.{ℕ, _+_, _^_, _≤_, _<_}
+use lib.ListN.{length, getD}
+use Rattle.rule.specs.Table.{fitLength, fitRows}
+use Rattle.rule.specs.Level.{size}
+use Rattle.rule.specs.Order.{places, flags, fitOrder, askedBefore}
+use Rattle.rule.specs.Cells.{sound}
+use Rattle.rule.specs.Diagram.{tableOf, diagram, asking}
+use Rattle.rule.specs.Reduced.{DrawnAs}
+use Rattle.rule.specs.Results.{needed}
+use Rattle.rule.specs.Reply.{Reply, accepted, refused, numberOf, Accepted}
+use Rattle.rule.specs.Calls.{State, Build, Check, Tabulate, Walk, Pack}
+use Rattle.rule.specs.Files.{Reads}
+use Rattle.rule.specs.History.{Call, Meets, Calls, Opens, BeginsOpen, Book, inBook, enter, bookOf}
+
+-- n flags in a fit order, and a fit table of theirs
+pub record Fit (n : ℕ) (order t : List ℕ) : Type 0 where
+  pub few : n ≤ 10
+  pub kept-in : length order ≡ places
+  pub order-fits : fitOrder n order ≡ true
+  pub rows : fitLength n t ≡ true
+  pub bits : fitRows t ≡ true
+
+-- ---- demand 2
+
+-- a call's reply is accepted with these values
+abbrev pub Gives : Reply → List ℕ → Type 0
+Gives r values = r ≡ accepted values
+
+-- a diagram "stands for one table only, tabulating it gives that table, and the node count handed back with it is the number of its records"
+pub record StandsFor (n : ℕ) (order t c : List ℕ) (nodes root : ℕ) : Type 0 where
+  pub drawn : DrawnAs n order t c nodes root
+  pub tabulates : (bytes after : List ℕ) (r : Reply) (s : State) → length bytes ≡ 2 ^ n
+      → Tabulate (record { n = n; places = order; used = nodes }) c root bytes r s after → Accepted r × (after ≡ t)
+
+pub record Demand2 : Type 0 where
+  -- "A diagram built from a table under an order is the reduced ordered diagram of that table as Bryant and Friedman define it."
+  pub built : (n nodes root : ℕ) (t order c d : List ℕ) (r : Reply) → length order ≡ places → Build n t order c r d → Gives r (nodes ∷ root ∷ [])
+      → StandsFor n order t d nodes root
+  -- and so is a packed one
+  pub packs : (n nodes root : ℕ) (t order c w d x : List ℕ) (r : Reply) → Pack n t c w r d x → Gives r (nodes ∷ root ∷ order) → StandsFor n order t d nodes root
+  -- "Every accepted diagram stands for one table only": of check
+  pub checked : (n nodes used root : ℕ) (order c : List ℕ) (r : Reply) → length order ≡ places → Check n order c used root r → Gives r (nodes ∷ [])
+      → (nodes ≡ used) × StandsFor n order (tableOf n c root) c nodes root
+  -- and of the reader
+  pub read : (n nodes root : ℕ) (order file c d : List ℕ) (r : Reply) → Reads file c r d → Gives r (n ∷ nodes ∷ root ∷ order)
+      → StandsFor n order (tableOf n d root) d nodes root
+  -- "In one store two node numbers are equal exactly when their rules agree on every row."
+  pub canonical : (n used k m : ℕ) (order c : List ℕ) → n ≤ 10 → length order ≡ places → fitOrder n order ≡ true → sound n order c used ≡ true → k ≤ used + 1
+      → m ≤ used + 1 → (tableOf n c k ≡ tableOf n c m) ↔ (k ≡ m)
+  -- "So its root is its last record, or an end node when there are none."
+  pub root-last : (n used root : ℕ) (order c : List ℕ) → diagram n order c used root ≡ true → 0 < used → root ≡ used + 1
+  -- what refusal 10 counts for build and pack: the records of each diagram of the table, of which there is one in every order
+  pub counts : (n : ℕ) (order t : List ℕ) → Fit n order t → (c : List ℕ) (used root : ℕ) → DrawnAs n order t c used root → used ≡ size (flags n order) t
+  pub exists : (n : ℕ) (order t : List ℕ) → Fit n order t → (c : List ℕ) × (used : ℕ) × (root : ℕ) × DrawnAs n order t c used root
+  -- what it counts for a rule made in a store: no sound cells that keep the older nodes and hold the rule use fewer records
+  pub needs : (n : ℕ) (order t : List ℕ) → Fit n order t → (c d : List ℕ) (used more m : ℕ) → sound n order c used ≡ true → sound n order d more ≡ true
+      → used ≤ more → ((k : ℕ) → k ≤ used + 1 → tableOf n d k ≡ tableOf n c k) → m ≤ more + 1 → tableOf n d m ≡ t
+      → used + needed n order c used t ≤ more
+
+-- ---- demand 3
+
+-- "each rule in the scope paper's plain book of these calls answers, row by row, what the book has, wherever tabulating or walking it is accepted", and
+-- "tabulating a rule in the book gives neither 6 nor 7"
+pub record AnswersAs (s : State) (c : List ℕ) (m : ℕ) (t : List ℕ) : Type 0 where
+  pub tabulated : (bytes after : List ℕ) (r : Reply) (s′ : State) → Tabulate s c m bytes r s′ after → Accepted r → after ≡ t
+  pub walked : (row a : ℕ) (r : Reply) (s′ : State) → Walk s c m row r s′ → Gives r (a ∷ []) → a ≡ getD t row 0
+  pub there : (bytes after : List ℕ) (r : Reply) (s′ : State) → Tabulate s c m bytes r s′ after → (numberOf r ≢ 6) × (numberOf r ≢ 7)
+
+-- "its packed diagram tabulates to that same table; the node count handed back is the number of its records, and every other order of the flags draws
+-- the table with at least as many"
+pub record PackedWell (n : ℕ) (t order : List ℕ) (nodes root : ℕ) (d : List ℕ) : Type 0 where
+  pub stands : StandsFor n order t d nodes root
+  pub fewest : (other cells : List ℕ) (used top : ℕ) → length other ≡ places → fitOrder n other ≡ true → DrawnAs n other t cells used top → nodes ≤ used
+
+-- "To bring out a rule is to tabulate it and pack the table, as left, into cells other than the store's, both calls being accepted."
+abbrev pub BroughtOut : State → List ℕ → ℕ → ℕ → List ℕ → Type 0
+BroughtOut s c m n t =
+    (bytes after : List ℕ) (r : Reply) (s′ : State) → Tabulate s c m bytes r s′ after → Accepted r
+    → (cells w d x order : List ℕ) (p : Reply) (nodes root : ℕ) → Pack n after cells w p d x → Gives p (nodes ∷ root ∷ order)
+    → PackedWell n t order nodes root d
+
+-- what holds of each rule in the book after the list
+pub record RuleKept (s : State) (c : List ℕ) (b : Book) (m : ℕ) (t : List ℕ) : Type 0 where
+  pub answers : AnswersAs s c m t
+  pub brought-out : BroughtOut s c m (b .n) t
+
+-- "a table written over an older one equals it": by one more call x, which is no accepted open
+abbrev pub Agrees : Book → Call → Type 0
+Agrees b x = (m : ℕ) (t u : List ℕ) → inBook b m ≡ some t → inBook (enter b x) m ≡ some u → (Opens x → ⊥) → t ≡ u
+
+-- "The set asked before a flag is the flags standing before it in the order": the same set for two orders
+abbrev pub SameBefore : ℕ → ℕ → List ℕ → List ℕ → Type 0
+SameBefore n v o p = (i : ℕ) → List·Memᴰ i (askedBefore v (flags n o)) ↔ List·Memᴰ i (askedBefore v (flags n p))
+
+-- "for one rule, any two orders with the same set asked before a flag draw equally many nodes asking it"
+abbrev pub EquallyMany : ℕ → List ℕ → Type 0
+EquallyMany n t =
+    (o p : List ℕ) → Fit n o t → Fit n p t → (v : ℕ) → v < n → SameBefore n v o p
+    → (c d : List ℕ) (used top more root : ℕ) → DrawnAs n o t c used top → DrawnAs n p t d more root → asking c used v ≡ asking d more v
+
+-- Demand 3: one claim about any list of calls that begins with an accepted open, from any state, any cells and any book, and one call more
+pub record Demand3 : Type 0 where
+  pub kept : (first s : State) (cells c : List ℕ) (b : Book) (xs : List Call) → Calls first cells xs s c → BeginsOpen xs
+      → (m : ℕ) (t : List ℕ) → inBook (bookOf b xs) m ≡ some t → RuleKept s c (bookOf b xs) m t
+  pub rewritten : (first s : State) (cells c : List ℕ) (b : Book) (xs : List Call) → Calls first cells xs s c → BeginsOpen xs
+      → (x : Call) → Meets s c x → Agrees (bookOf b xs) x
+  pub equally : (n : ℕ) (t : List ℕ) → EquallyMany n t

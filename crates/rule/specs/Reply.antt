@@ -1,0 +1,28 @@
+-- What a call hands back and leaves, as the paper counts it (document 01, "Refused, by where it is found").
+-- Assumes nothing.
+use mathlib.Core.List.{List, [], _∷_, map}
+use Prim.Native.Nat.{ℕ, zero, suc}
+
+-- what a call hands back, as the paper counts it: accepted with its values, or refused with its number and what stands in the values' place
+pub data Reply : Type 0 where
+  accepted : List ℕ → Reply
+  refused : ℕ → List ℕ → Reply
+
+-- "A refusal hands back its number and zeros": the reply of a call that is refused under this number, 0 for none, and has these values where it is accepted
+abbrev pub reply : ℕ → List ℕ → Reply
+reply zero values = accepted values
+reply (suc k) values = refused (suc k) (map (λ v. 0) values)
+
+-- the number of a reply, 0 where it is accepted
+abbrev pub numberOf : Reply → ℕ
+numberOf (accepted values) = 0
+numberOf (refused k values) = k
+
+abbrev pub Accepted : Reply → Type 0
+Accepted (accepted values) = Unit {0}
+Accepted (refused k values) = ⊥
+
+-- what stands in a lent buffer after a call: `new` where it is accepted, and "It alters nothing lent" where it is refused
+abbrev pub leaves : {A : Type 0} → ℕ → A → A → A
+leaves zero new old = new
+leaves (suc k) new old = old

@@ -1,0 +1,28 @@
+-- The fixed list of sets that packing goes through (document 01, "Packing"). A set of flags is a number: bit v says that flag v is in it.
+-- Assumes nothing.
+use mathlib.Core.List.{List, [], _∷_, _++_}
+use Prim.Native.Nat.{ℕ}
+use lib.Count.{onesIn}
+use lib.Dec.{eqb}
+use lib.ListN.{getD}
+use Rattle.rule.specs.Bits.{below}
+use Rattle.rule.specs.Tests.{keep}
+
+-- "the size of a set is the number of ones in its ten-bit number"
+abbrev pub setSize : ℕ → ℕ
+setSize x = onesIn 10 x
+
+-- the sets of one size, by rising number
+unfoldable pub ofSize : ℕ → List ℕ
+ofSize k = keep (λ x. eqb (setSize x) k) (below 1024)
+
+unfoldable pub ofSizes : List ℕ → List ℕ
+ofSizes [] = []
+ofSizes (k ∷ ks) = ofSize k ++ ofSizes ks
+
+-- "a fixed list of all 1,024 sets of ten flags, by rising size and then rising number"
+unfoldable pub sets : List ℕ
+sets = ofSizes (below 11)
+
+unfoldable pub setAt : ℕ → ℕ
+setAt i = getD sets i 0

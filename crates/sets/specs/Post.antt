@@ -1,0 +1,13 @@
+-- What the list's functions ensure: the value outright, and the bound that callers want of it.
+-- Assumes nothing.
+use mathlib.Core.Path.{_≡_}
+use Prim.Native.Nat.{ℕ, _≤_, _<_}
+use Rattle.rule.specs.Sets.{setSize, setAt}
+
+pub record SetAt (i r : ℕ) : Type 0 where
+  pub is : r ≡ setAt i
+  pub small : r < 1024
+
+pub record Size (set r : ℕ) : Type 0 where
+  pub is : r ≡ setSize set
+  pub most : r ≤ 10

@@ -1,0 +1,13 @@
+pub mod Member
+pub mod Bits
+pub mod Tests
+pub mod Perm
+pub mod Least
+pub mod Distinct
+pub mod Cofactor
+pub mod Friedman
+pub mod Dynamic
+pub mod Sets
+pub mod Packed
+pub mod Orders
+pub mod Search

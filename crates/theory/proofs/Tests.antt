@@ -1,0 +1,113 @@
+-- What the tests of lists and tables say, and the members of a list that pass one.
+-- Assumes nothing.
+use mathlib.Core.Path.{_≡_, refl, sym, ap, ap₂, _∙_}
+use mathlib.Core.Logic.{_⊎_, inl, inr, ⊎-elim}
+use mathlib.Core.Bool.{Bool, true, false, _&&_, true≢false, false≢true}
+use mathlib.Core.List.{List, [], _∷_, List·Memᴰ as In, List·Memᴰ·head as head, List·Memᴰ·tail as tail, List·Memᴰ·not-nil as not-nil, List·Memᴰ·cases-cons as cases-cons}
+use Prim.Native.Nat.{ℕ, zero, suc, _<_, suc-le-suc}
+use native.Mathlib.Omega.{arith}
+use borrow.Author.Tests.{eqb-true, eq-eqb}
+use lib.Dec.{eqb}
+use lib.ListN.{length, getD}
+use Rattle.rule.specs.Bits.{below}
+use Rattle.rule.specs.Tests.{each, addIf, keep, same, among}
+use Rattle.theory.proofs.Bits.{below-in, in-below}
+
+-- ---- a test and the fact that it tests
+
+abbrev pub Tested : Bool → Type 0 → Type 0
+Tested b P = ((b ≡ true) × P) ⊎ ((b ≡ false) × (P → ⊥))
+
+pub tested : {P : Type 0} (b : Bool) → (b ≡ true → P) → (P → b ≡ true) → Tested b P
+tested true f g = inl (refl, f refl)
+tested false f g = inr (refl, λ p. false≢true (g p))
+
+pub and-split : (a b : Bool) → (a && b) ≡ true → (a ≡ true) × (b ≡ true)
+and-split true b e = (refl, e)
+and-split false b e = absurd (false≢true e)
+
+pub and-join : {a b : Bool} → a ≡ true → b ≡ true → (a && b) ≡ true
+and-join e f = rw (e, f)
+
+same-eq : (x y : List ℕ) → same x y ≡ true → x ≡ y
+unfolding same
+same-eq [] [] e = refl
+same-eq [] (y ∷ ys) e = absurd (false≢true e)
+same-eq (x ∷ xs) [] e = absurd (false≢true e)
+same-eq (x ∷ xs) (y ∷ ys) e =
+    let h = and-split (eqb x y) (same xs ys) e in
+    ap₂ {C = List ℕ} _∷_ (eqb-true x y (h .0)) (same-eq xs ys (h .1))
+
+same-refl : (x : List ℕ) → same x x ≡ true
+unfolding same
+same-refl [] = refl
+same-refl (x ∷ xs) = and-join (eq-eqb x x refl) (same-refl xs)
+
+pub same? : (x y : List ℕ) → Tested (same x y) (x ≡ y)
+same? x y = tested (same x y) (same-eq x y) (λ e. rw (← e) (same-refl x))
+
+pub among? : (t : List ℕ) (us : List (List ℕ)) → Tested (among t us) (In t us)
+unfolding among
+among? t [] = inr (refl, not-nil)
+among? t (u ∷ us) =
+    ⊎-elim
+    (λ h. inl (rw (h .0), head (h .1)))
+    (λ h.
+    ⊎-elim
+    (λ k. inl (rw (h .0, k .0), tail (k .1)))
+    (λ k. inr (rw (h .0, k .0), λ m. ⊎-elim (h .1) (k .1) (cases-cons m)))
+    (among? t us))
+    (same? t u)
+
+-- ---- each member passes, and the members that pass
+
+module _ {A : Type 0} (p : A → Bool) where
+  pub each-in : (l : List A) → each p l ≡ true → {x : A} → In x l → p x ≡ true
+  unfolding each
+  each-in [] e m = absurd (not-nil m)
+  each-in (y ∷ l) e m =
+      let h = and-split (p y) (each p l) e in
+      ⊎-elim (λ q. ap p q ∙ h .0) (λ k. each-in l (h .1) k) (cases-cons m)
+
+  pub in-each : (l : List A) → ((x : A) → In x l → p x ≡ true) → each p l ≡ true
+  unfolding each
+  in-each [] f = refl
+  in-each (x ∷ l) f = and-join (f x (head refl)) (in-each l (λ y m. f y (tail m)))
+
+  -- the same by the index: of a member, or of the default past the end
+  pub each-at : (l : List A) (d : A) → each p l ≡ true → p d ≡ true → (k : ℕ) → p (getD l k d) ≡ true
+  unfolding each
+  each-at [] d e h k = h
+  each-at (x ∷ l) d e h zero = and-split (p x) (each p l) e .0
+  each-at (x ∷ l) d e h (suc k) = each-at l d (and-split (p x) (each p l) e .1) h k
+
+  pub at-each : (l : List A) (d : A) → ((k : ℕ) → k < length l → p (getD l k d) ≡ true) → each p l ≡ true
+  unfolding each
+  at-each [] d f = refl
+  at-each (x ∷ l) d f = and-join (f 0 (omega arith)) (at-each l d (λ k h. f (suc k) (suc-le-suc h)))
+
+  pub keep-in : {x : A} (l : List A) → In x (keep p l) → In x l × (p x ≡ true)
+  unfolding keep
+  keep-in [] m = absurd (not-nil m)
+  keep-in {x} (y ∷ l) m = go (p y) refl m (λ k. keep-in l k)
+    where
+      go : (b : Bool) → p y ≡ b → In x (addIf b y (keep p l)) → (In x (keep p l) → In x l × (p x ≡ true)) → In x (y ∷ l) × (p x ≡ true)
+      go true e k ih = ⊎-elim (λ h. (head h, ap p h ∙ e)) (λ h. let r = ih h in (tail (r .0), r .1)) (cases-cons k)
+      go false e k ih = let r = ih k in (tail (r .0), r .1)
+
+  pub in-keep : {x : A} (l : List A) → In x l → p x ≡ true → In x (keep p l)
+  unfolding keep
+  in-keep [] m h = absurd (not-nil m)
+  in-keep {x} (y ∷ l) m h = go (p y) refl (cases-cons m) (λ k. in-keep l k h)
+    where
+      go : (b : Bool) → p y ≡ b → (x ≡ y) ⊎ In x l → (In x l → In x (keep p l)) → In x (addIf b y (keep p l))
+      go true e (inl k) ih = head k
+      go true e (inr k) ih = tail (ih k)
+      go false e (inl k) ih = absurd (true≢false (sym h ∙ ap p k ∙ e))
+      go false e (inr k) ih = ih k
+
+pub each-below : (p : ℕ → Bool) (n : ℕ) → each p (below n) ≡ true → (k : ℕ) → k < n → p k ≡ true
+each-below p n e k h = each-in p (below n) e (in-below h)
+
+pub below-each : (p : ℕ → Bool) (n : ℕ) → ((k : ℕ) → k < n → p k ≡ true) → each p (below n) ≡ true
+below-each p n f = in-each p (below n) (λ k m. f k (below-in m))
