@@ -1,13 +1,14 @@
 -- Laws of bits, of a number with one bit set, and of the rising lists.
 -- Assumes nothing.
 use mathlib.Core.Path.{_≡_, refl, sym, ap, _∙_}
-use mathlib.Core.Logic.{_≢_, ⊎-elim}
-use mathlib.Core.List.{List, [], _∷_, map, List·Memᴰ as In, List·Memᴰ·head as head, List·Memᴰ·tail as tail, List·Memᴰ·not-nil as not-nil, List·Memᴰ·cases-cons as cases-cons}
+use mathlib.Core.Logic.{_≢_, inl, inr}
+use mathlib.Core.List.{map}
 use Prim.Native.Nat.{ℕ, zero, suc, _+_, _*_, _/_, _%_, _^_, _≤_, _<_, suc-le-suc}
 use native.Mathlib.Nat.{add-zero, zero-add, le-of-suc-le-suc, not-suc-le-zero, eq-or-lt-of-le}
 use native.Mathlib.Omega.{arith}
 use lib.ListN.{length, getD}
 use Rattle.rule.specs.Bits.{bit, setBit, from, below}
+use Rattle.theory.proofs.Member.{In, head, tail, not-nil, cases-cons}
 
 -- ---- the rising lists
 
@@ -16,15 +17,16 @@ unfolding from
 length-from a zero = refl
 length-from a (suc k) = ap suc (length-from (suc a) k)
 
+-- its members are the numbers from a to below a + k
 pub from-in : (a k i : ℕ) → In i (from a k) → (a ≤ i) × (i < a + k)
 unfolding from
 from-in a zero i m = absurd (not-nil m)
-from-in a (suc k) i m = ⊎-elim (λ e. omega arith) (λ h. omega (arith, from-in (suc a) k i h)) (cases-cons m)
+from-in a (suc k) i m = elim (cases-cons m) [ inl e ↦ omega arith | inr h ↦ omega (arith, from-in (suc a) k i h) ]
 
 pub in-from : (a k i : ℕ) → a ≤ i → i < a + k → In i (from a k)
 unfolding from
 in-from a zero i l h = absurd (omega arith)
-in-from a (suc k) i l h = ⊎-elim (λ e. head (sym e)) (λ m. tail (in-from (suc a) k i m (omega arith))) (eq-or-lt-of-le l)
+in-from a (suc k) i l h = elim (eq-or-lt-of-le l) [ inl e ↦ head (sym e) | inr m ↦ tail (in-from (suc a) k i m (omega arith)) ]
 
 pub below-in : {n i : ℕ} → In i (below n) → i < n
 below-in {n} {i} m = omega (arith, from-in 0 n i m)
@@ -73,6 +75,7 @@ bits-eq (suc n) r s h k e =
 halve : (x b : ℕ) → b < 2 → (x * 2 + b) / 2 ≡ x
 halve x b h = omega arith
 
+-- the bit that is set has the value, and every other is as it was
 pub bit-same : (r i b : ℕ) → b < 2 → bit (setBit r i b) i ≡ b
 unfolding bit setBit
 bit-same r zero b h = omega arith
@@ -92,6 +95,7 @@ setBit-lt zero r i b h k l = absurd (not-suc-le-zero k)
 setBit-lt (suc n) r zero b h k l = omega arith
 setBit-lt (suc n) r (suc i) b h k l = omega (arith, setBit-lt n (r / 2) i b (omega arith) (le-of-suc-le-suc k) l)
 
+-- two bits are set in either sequence
 pub setBit-comm : (r i j b c : ℕ) → i ≢ j → b < 2 → c < 2 → setBit (setBit r i b) j c ≡ setBit (setBit r j c) i b
 unfolding setBit
 setBit-comm r zero zero b c d h k = absurd (d refl)

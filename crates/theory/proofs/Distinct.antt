@@ -1,48 +1,52 @@
 -- The distinct tables of a list: its members, each once. Their number goes by the members alone.
 -- Assumes nothing.
 use mathlib.Core.Path.{_≡_}
-use mathlib.Core.Logic.{_⊎_, ⊎-elim}
-use mathlib.Core.Bool.{not}
-use mathlib.Core.List.{List, [], _∷_, List·Memᴰ as In, List·Memᴰ·head as head, List·Memᴰ·tail as tail, List·Memᴰ·not-nil as not-nil, List·Memᴰ·cases-cons as cases-cons, Memᴰ·cast as cast}
+use mathlib.Core.Logic.{inl, inr}
+use mathlib.Core.List.{List, [], _∷_}
 use Prim.Native.Nat.{ℕ, _≤_}
-use native.Mathlib.Nat.{le-antisymm}
 use lib.ListN.{length}
-use Rattle.rule.specs.Tests.{among}
 use Rattle.rule.specs.Level.{distinct}
+use Rattle.theory.proofs.Member.{head, tail, cases-cons, cast}
 use Rattle.theory.proofs.Tests.{among?}
-use Rattle.theory.proofs.Perm.{Once, Within, once-length}
+use Rattle.theory.proofs.Perm.{Once, Within, once-length, once-set}
 
+-- the members are the list's
 pub distinct-in : (ts : List (List ℕ)) → Within (distinct ts) ts
 unfolding distinct
 distinct-in [] x m = m
 distinct-in (t ∷ ts) x m =
-    ⊎-elim
-    (λ h. tail (distinct-in ts x (rw (h .0) at m)))
-    (λ h. ⊎-elim (λ e. head e) (λ k. tail (distinct-in ts x k)) (cases-cons (rw (h .0) at m)))
-    (among? t ts)
+    elim (among? t ts) [
+      | inl h ↦ tail (distinct-in ts x (rw (h .0) at m))
+      | inr h ↦ elim (cases-cons (rw (h .0) at m)) [ inl e ↦ head e | inr k ↦ tail (distinct-in ts x k) ]
+    ]
 
 pub in-distinct : (ts : List (List ℕ)) → Within ts (distinct ts)
 unfolding distinct
 in-distinct [] x m = m
 in-distinct (t ∷ ts) x m =
-    ⊎-elim
-    (λ h. rw (h .0) (in-distinct ts x (⊎-elim (λ e. cast e (h .1)) (λ k. k) (cases-cons m))))
-    (λ h. rw (h .0) (⊎-elim (λ e. head e) (λ k. tail (in-distinct ts x k)) (cases-cons m)))
-    (among? t ts)
+    elim (among? t ts) [
+      | inl h ↦ rw (h .0) (in-distinct ts x (elim (cases-cons m) [ inl e ↦ cast e (h .1) | inr k ↦ k ]))
+      | inr h ↦ rw (h .0) (elim (cases-cons m) [ inl e ↦ head e | inr k ↦ tail (in-distinct ts x k) ])
+    ]
 
+-- none stands twice
 pub distinct-once : (ts : List (List ℕ)) → Once (distinct ts)
 unfolding distinct
 distinct-once [] = tt
 distinct-once (t ∷ ts) =
-    ⊎-elim
-    (λ h. rw (h .0) (distinct-once ts))
-    (λ h. rw (h .0) (λ m. h .1 (distinct-in ts t m), distinct-once ts))
-    (among? t ts)
+    elim (among? t ts) [
+      | inl h ↦ rw (h .0) (distinct-once ts)
+      | inr h ↦ rw (h .0) (λ m. h .1 (distinct-in ts t m), distinct-once ts)
+    ]
+
+distinct-within : (xs ys : List (List ℕ)) → Within xs ys → Within (distinct xs) (distinct ys)
+distinct-within xs ys w t m = in-distinct ys t (w t (distinct-in xs t m))
 
 -- more members, no fewer distinct tables
 pub distinct-mono : (xs ys : List (List ℕ)) → Within xs ys → length (distinct xs) ≤ length (distinct ys)
-distinct-mono xs ys w =
-    once-length (distinct xs) (distinct ys) (distinct-once xs) (λ t m. in-distinct ys t (w t (distinct-in xs t m)))
+distinct-mono xs ys w = once-length (distinct xs) (distinct ys) (distinct-once xs) (distinct-within xs ys w)
 
+-- the same members, as many
 pub distinct-set : (xs ys : List (List ℕ)) → Within xs ys → Within ys xs → length (distinct xs) ≡ length (distinct ys)
-distinct-set xs ys w r = le-antisymm (distinct-mono xs ys w) (distinct-mono ys xs r)
+distinct-set xs ys w r =
+    once-set (distinct xs) (distinct ys) (distinct-once xs) (distinct-once ys) (distinct-within xs ys w) (distinct-within ys xs r)

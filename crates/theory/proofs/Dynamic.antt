@@ -1,14 +1,46 @@
 -- The recursion over sets of flags, for any cost: it finds the least cost of all orders, and the dictionary-first order that has it.
 -- A set is a number: bit v of S says that flag v is still to be asked. The cost c S v is that of asking v while S is still to be asked.
 -- Assumes nothing.
-use mathlib.Core.Path.{_≡_, refl, sym, ap, _∙_, subst}
-use mathlib.Core.Logic.{_≢_, _⊎_, inl, inr, ⊎-elim}
+use mathlib.Core.Path.{_≡_, refl, sym, ap, ap₂, _∙_, subst}
+use mathlib.Core.Logic.{_≢_, _⊎_, inl, inr}
 use mathlib.Core.List.{List, [], _∷_}
 use Prim.Native.Nat.{ℕ, _+_, _≤_, _<_}
 use native.Mathlib.Nat.{eq-or-lt-of-le, le-trans}
 use native.Mathlib.Omega.{arith}
 use Rattle.rule.specs.Bits.{bit, setBit}
 use Rattle.theory.proofs.Bits.{clear-le}
+
+-- ---- the dictionary
+
+-- o stands before p in the dictionary, or is p
+abbrev pub Lex : List ℕ → List ℕ → Type 0
+Lex [] p = Unit {0}
+Lex (v ∷ o) [] = ⊥
+Lex (v ∷ o) (u ∷ p) = (v < u) ⊎ ((v ≡ u) × Lex o p)
+
+pub lex-refl : (o : List ℕ) → Lex o o
+lex-refl [] = tt
+lex-refl (v ∷ o) = inr (refl, lex-refl o)
+
+pub lex-trans : (o p q : List ℕ) → Lex o p → Lex p q → Lex o q
+lex-trans [] p q a b = tt
+lex-trans (v ∷ o) [] q a b = absurd a
+lex-trans (v ∷ o) (u ∷ p) [] a b = b
+lex-trans (v ∷ o) (u ∷ p) (w ∷ q) (inl l) (inl k) = inl (omega arith)
+lex-trans (v ∷ o) (u ∷ p) (w ∷ q) (inl l) (inr k) = inl (omega arith)
+lex-trans (v ∷ o) (u ∷ p) (w ∷ q) (inr l) (inl k) = inl (omega arith)
+lex-trans (v ∷ o) (u ∷ p) (w ∷ q) (inr l) (inr k) = inr (l .0 ∙ k .0, lex-trans o p q (l .1) (k .1))
+
+pub lex-antisym : (o p : List ℕ) → Lex o p → Lex p o → o ≡ p
+lex-antisym [] [] a b = refl
+lex-antisym [] (u ∷ p) a b = absurd b
+lex-antisym (v ∷ o) [] a b = absurd a
+lex-antisym (v ∷ o) (u ∷ p) (inl l) (inl k) = absurd (omega arith)
+lex-antisym (v ∷ o) (u ∷ p) (inl l) (inr k) = absurd (omega arith)
+lex-antisym (v ∷ o) (u ∷ p) (inr l) (inl k) = absurd (omega arith)
+lex-antisym (v ∷ o) (u ∷ p) (inr l) (inr k) = ap₂ {C = List ℕ} _∷_ (l .0) (lex-antisym o p (l .1) (k .1))
+
+-- ---- the recursion
 
 -- o asks each flag of S once
 abbrev pub Lists : ℕ → List ℕ → Type 0
@@ -19,12 +51,6 @@ Lists S (v ∷ o) = (bit S v ≡ 1) × Lists (setBit S v 0) o
 abbrev pub Follows : (ℕ → ℕ) → ℕ → List ℕ → Type 0
 Follows pick S [] = S ≡ 0
 Follows pick S (v ∷ o) = (S ≢ 0) × (v ≡ pick S) × Follows pick (setBit S v 0) o
-
--- o stands before p in the dictionary, or is p
-abbrev pub Lex : List ℕ → List ℕ → Type 0
-Lex [] p = Unit {0}
-Lex (v ∷ o) [] = ⊥
-Lex (v ∷ o) (u ∷ p) = (v < u) ⊎ ((v ≡ u) × Lex o p)
 
 module _ (c : ℕ → ℕ → ℕ) where
   -- the cost of an order of the flags of S
@@ -69,17 +95,17 @@ module _ (c : ℕ → ℕ → ℕ) where
         let low : best S ≤ c S u + best (setBit S u 0) = s .low S u b (l .0) in
         let rest : best (setBit S u 0) ≤ total (setBit S u 0) p = lower (setBit S u 0) p (le-trans (clear-le S u) b) (l .1) in
         let fst : pick S ≤ u = s .first S u b (l .0) (omega arith) in
-        ⊎-elim
-        (λ e′.
-        let w : v ≡ u = f .1 ∙ e′ in
-        inr (
-          w,
-          follows-first (setBit S v 0) o p (le-trans (clear-le S v) b) (f .2)
-              (subst (λ (x : ℕ). Lists (setBit S x 0) p) (sym w) (l .1))
-              (subst (λ (x : ℕ). total (setBit S x 0) p ≡ best (setBit S x 0)) (sym w) (omega arith)),
-        ))
-        (λ h. inl (omega (arith, f .1)))
-        (eq-or-lt-of-le fst)
+        elim (eq-or-lt-of-le fst) [
+          | inl e′ ↦
+              let w : v ≡ u = f .1 ∙ e′ in
+              inr (
+                w,
+                follows-first (setBit S v 0) o p (le-trans (clear-le S v) b) (f .2)
+                    (subst (λ (x : ℕ). Lists (setBit S x 0) p) (sym w) (l .1))
+                    (subst (λ (x : ℕ). total (setBit S x 0) p ≡ best (setBit S x 0)) (sym w) (omega arith)),
+              )
+          | inr h ↦ inl (omega (arith, f .1))
+        ]
 
     -- what the recursion picks costs least of all orders, and stands first of those that do
     pub follows-least : (S : ℕ) (o : List ℕ) → S ≤ N → Follows pick S o → IsLeast S o × (total S o ≡ best S)

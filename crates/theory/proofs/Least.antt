@@ -3,7 +3,7 @@
 use mathlib.Core.Path.{_≡_, refl, ap, subst}
 use mathlib.Core.Logic.{_⊎_, inl, inr}
 use mathlib.Core.Bool.{Bool, true, false, cond}
-use mathlib.Core.List.{List, [], _∷_, _++_, map, List·Memᴰ as In, List·Memᴰ·head as head, List·Memᴰ·tail as tail, List·Memᴰ·cases-cons as cases-cons, List·Memᴰ·append-cases as append-cases, List·Memᴰ·eq-of-singleton as eq-of-singleton, Memᴰ·of-map as of-map}
+use mathlib.Core.List.{List, [], _∷_, _++_, map}
 use Prim.Native.Nat.{ℕ, zero, suc, _≤_, _<_}
 use native.Mathlib.Omega.{arith}
 use lib.Dec.{ltb}
@@ -11,6 +11,7 @@ use borrow.Author.Tests.{ltb-true, ltb-false}
 use Rattle.rule.specs.Bits.{from}
 use Rattle.rule.specs.Tests.{addIf, keep}
 use Rattle.rule.specs.Order.{firstLeast}
+use Rattle.theory.proofs.Member.{In, head, tail, cases-cons, append-cases, eq-of-singleton, map-in}
 use Rattle.theory.proofs.Bits.{from-in}
 use Rattle.theory.proofs.Tests.{keep-in}
 
@@ -24,7 +25,7 @@ module _ {A : Type 0} {R : A → A → Type 0} where
   pub pairwise-map : (f : A → A) (xs : List A) → ((x y : A) → R x y → R (f x) (f y)) → Pairwise R xs → Pairwise R (map f xs)
   pairwise-map f [] g p = tt
   pairwise-map f (x ∷ xs) g p = (
-    λ y m. let (z, mz, e) = of-map f xs m in subst (R (f x)) e (g x z (p .0 z mz)),
+    λ y m. let (z, mz, e) = map-in f xs m in subst (R (f x)) e (g x z (p .0 z mz)),
     pairwise-map f xs g (p .1),
   )
 

@@ -1,25 +1,26 @@
 -- The enumerated orders are the orders, in dictionary order; `packed` is the packed one; and orders in their ten places.
 -- Assumes nothing.
 use mathlib.Core.Path.{_≡_, refl, sym, ap, _∙_, subst}
-use mathlib.Core.Logic.{_⊎_, inl, inr, _↔_}
-use mathlib.Core.Bool.{Bool, true, false, cond}
-use mathlib.Core.List.{List, [], _∷_, _++_, map, append-assoc, List·Memᴰ as In, List·Memᴰ·head as head, List·Memᴰ·tail as tail, List·Memᴰ·not-nil as not-nil, List·Memᴰ·cases-cons as cases-cons, List·Memᴰ·append-cases as append-cases, List·Memᴰ·eq-of-singleton as eq-of-singleton, Memᴰ·cast as cast, Memᴰ·append-left as append-left, Memᴰ·append-right as append-right, Memᴰ·map as in-map, Memᴰ·of-map as of-map, List·Permᴰ as Perm, List·Permᴰ·cons as cons, List·Permᴰ·swap as swap, List·Permᴰ·trans as trans, Permᴰ·refl as perm-refl}
+use mathlib.Core.Logic.{inl, inr, _↔_}
+use mathlib.Core.Bool.{true}
+use mathlib.Core.List.{List, [], _∷_, _++_, map, append-assoc}
 use Prim.Native.Nat.{ℕ, zero, suc, _+_, _-_, _≤_, _<_}
 use native.Mathlib.Nat.{suc-inj}
 use native.Mathlib.Omega.{arith}
 use lib.Dec.{eqb}
 use lib.ListN.{length, getD, take, drop, replicate, length-take, length-drop, length-append, length-replicate, getD-replicate, replicate-append-replicate}
-use lib.Seq.{take-take, take-at, getD-append-add, getD-drop}
+use lib.Seq.{take-at, getD-append-add, getD-drop}
 use borrow.Author.Tests.{eqb-true, eq-eqb}
-use Rattle.rule.specs.Bits.{from, below}
+use Rattle.rule.specs.Bits.{below}
 use Rattle.rule.specs.Level.{size}
-use Rattle.rule.specs.Tests.{each, keep}
+use Rattle.rule.specs.Tests.{keep}
 use Rattle.rule.specs.Order.{flags, times, eachOnce, restZero, fitOrder, inPlaces, picks, gather, ordersOf, orders, leastOf, packed}
-use Rattle.theory.proofs.Bits.{length-from, from-in, below-in, in-below}
+use Rattle.theory.proofs.Member.{In, head, tail, not-nil, cases-cons, append-cases, eq-of-singleton, cast, append-left, append-right, in-map, map-in, Perm, cons, swap, trans, perm-refl}
+use Rattle.theory.proofs.Bits.{length-from, below-in, in-below}
 use Rattle.theory.proofs.Tests.{and-split, and-join, each-in, each-at, at-each, below-each, keep-in, in-keep}
 use Rattle.theory.proofs.Perm.{Once, Within, Exactly, exactly-iff, later, perm-in, perm-back, perm-length, perm-once, perm-of-length, once-set, once-keep, once-from}
-use Rattle.theory.proofs.Least.{Pairwise, pairwise-map, pairwise-append, Rising, rising-from, IsFirst, firstOf, first-of, first-least}
-use Rattle.theory.proofs.Dynamic.{Lex}
+use Rattle.theory.proofs.Least.{Pairwise, pairwise-map, pairwise-append, Rising, rising-from, first-of, first-least}
+use Rattle.theory.proofs.Dynamic.{Lex, lex-refl, lex-trans}
 use Rattle.theory.proofs.Sets.{Order}
 use Rattle.theory.proofs.Packed.{IsPacked}
 
@@ -28,15 +29,20 @@ use Rattle.theory.proofs.Packed.{IsPacked}
 abbrev Pick : Type 0
 Pick = ℕ × List ℕ
 
-module _ {v : ℕ} {vs : List ℕ} (P : Pick → Type 0) (first : P (v, vs)) (rest : (p : Pick) → In p (picks vs) → P (p .0, v ∷ p .1)) where
+-- the same taken out of a longer list: its first flag is left
+abbrev leaving : ℕ → Pick → Pick
+leaving v p = (p .0, v ∷ p .1)
+
+module _ {v : ℕ} {vs : List ℕ} (P : Pick → Type 0) (first : P (v, vs)) (rest : (p : Pick) → In p (picks vs) → P (leaving v p)) where
   pick-cases : (p : Pick) → In p (picks (v ∷ vs)) → P p
   unfolding picks
   pick-cases p m =
       elim (cases-cons m) [
         | inl e ↦ rw e first
-        | inr k ↦ let (q, mq, e) = of-map (λ (p : Pick). (p .0, v ∷ p .1)) (picks vs) k in subst P e (rest q mq)
+        | inr k ↦ let (q, mq, e) = map-in (leaving v) (picks vs) k in subst P e (rest q mq)
       ]
 
+-- a pick has the list's flags, in another sequence
 picks-perm : (vs : List ℕ) (p : Pick) → In p (picks vs) → Perm vs (p .0 ∷ p .1)
 unfolding picks
 picks-perm [] p m = absurd (not-nil m)
@@ -56,7 +62,7 @@ unfolding picks
 picks-has vs v (head {x = u} {xs = us} e) = ((u, us), head refl, sym e)
 picks-has vs v (tail {x = u} {xs = us} m) =
     let (p, mp, e) = picks-has us v m in
-    ((p .0, u ∷ p .1), tail (in-map (λ (p : Pick). (p .0, u ∷ p .1)) mp), e)
+    (leaving u p, tail (in-map (leaving u) mp), e)
 
 -- the flags that are taken out rise
 abbrev Heads : List Pick → Type 0
@@ -67,9 +73,9 @@ unfolding picks
 picks-heads [] r = tt
 picks-heads (v ∷ vs) r = (
   λ q m.
-      let (p, mp, e) = of-map (λ (p : Pick). (p .0, v ∷ p .1)) (picks vs) m in
+      let (p, mp, e) = map-in (leaving v) (picks vs) m in
       subst (λ (x : Pick). v < x .0) e (r .0 (p .0) (perm-back (picks-perm vs p mp) (p .0) (head refl))),
-  pairwise-map (λ (p : Pick). (p .0, v ∷ p .1)) (picks vs) (λ p q h. h) (picks-heads vs (r .1)),
+  pairwise-map (leaving v) (picks vs) (λ p q h. h) (picks-heads vs (r .1)),
 )
 
 -- ---- the enumerated orders are those that list each flag once
@@ -95,7 +101,7 @@ module _ (f : Pick → List (List ℕ)) {o : List ℕ} where
 
 -- the orders that begin with the flag that is taken out
 abbrev begin : ℕ → Pick → List (List ℕ)
-begin k p = map (λ (o : List ℕ). p .0 ∷ o) (ordersOf k (p .1))
+begin k p = map (_∷_ (p .0)) (ordersOf k (p .1))
 
 orders-sound : (k : ℕ) (vs : List ℕ) → Once vs → length vs ≡ k → (o : List ℕ) → In o (ordersOf k vs) → Exactly (λ (i : ℕ). In i vs) o
 unfolding ordersOf
@@ -103,7 +109,7 @@ orders-sound zero [] u l o m = rw (eq-of-singleton m) (record { once = tt; sound
 orders-sound zero (v ∷ vs) u l o m = absurd (omega arith)
 orders-sound (suc k) vs u l o m =
     let (p, mp, mo) = gather-in (begin k) (picks vs) m in
-    let (r, mr, e) = of-map (λ (o : List ℕ). p .0 ∷ o) (ordersOf k (p .1)) mo in
+    let (r, mr, e) = map-in (_∷_ (p .0)) (ordersOf k (p .1)) mo in
     let q = picks-perm vs p mp in
     let u′ = perm-once q u in
     let s = orders-sound k (p .1) (u′ .1) (suc-inj (sym (perm-length q) ∙ l)) r mr in
@@ -132,7 +138,7 @@ orders-whole (suc k) vs u l (v ∷ o) s =
       whole = λ i h. later (λ e′. u′ .0 (cast (e ∙ e′) h)) (s .whole i (perm-back q i (tail h)));
     } in
     in-gather (begin k) (picks vs) p mp
-    (cast (ap {B = List ℕ} (λ (x : ℕ). x ∷ o) (sym e)) (in-map (λ (o : List ℕ). p .0 ∷ o) (orders-whole k (p .1) (u′ .1) (suc-inj (sym (perm-length q) ∙ l)) o s′)))
+    (cast (ap {B = List ℕ} (λ (x : ℕ). x ∷ o) (sym e)) (in-map (_∷_ (p .0)) (orders-whole k (p .1) (u′ .1) (suc-inj (sym (perm-length q) ∙ l)) o s′)))
 
 -- ---- in dictionary order
 
@@ -144,12 +150,12 @@ unfolding gather
 gather-sorted k [] h s = tt
 gather-sorted k (p ∷ ps) h s =
     pairwise-append (begin k p) (gather (begin k) ps)
-    (pairwise-map (λ (o : List ℕ). p .0 ∷ o) (ordersOf k (p .1)) (λ o q l. inr (refl, l)) (s p (head refl)))
+    (pairwise-map (_∷_ (p .0)) (ordersOf k (p .1)) (λ o q l. inr (refl, l)) (s p (head refl)))
     (gather-sorted k ps (h .1) (λ q m. s q (tail m)))
     (λ x y mx my.
-    let (a, ma, ea) = of-map (λ (o : List ℕ). p .0 ∷ o) (ordersOf k (p .1)) mx in
+    let (a, ma, ea) = map-in (_∷_ (p .0)) (ordersOf k (p .1)) mx in
     let (q, mq, my′) = gather-in (begin k) ps my in
-    let (b, mb, eb) = of-map (λ (o : List ℕ). q .0 ∷ o) (ordersOf k (q .1)) my′ in
+    let (b, mb, eb) = map-in (_∷_ (q .0)) (ordersOf k (q .1)) my′ in
     rw (← ea, ← eb) (inl (h .0 q mq)))
 
 orders-sorted : (k : ℕ) (vs : List ℕ) → Rising vs → Sorted (ordersOf k vs)
@@ -159,19 +165,6 @@ orders-sorted (suc k) vs r = gather-sorted k (picks vs) (picks-heads vs r) (λ p
 
 -- ---- the packed order
 
-lex-refl : (o : List ℕ) → Lex o o
-lex-refl [] = tt
-lex-refl (v ∷ o) = inr (refl, lex-refl o)
-
-lex-trans : (o p q : List ℕ) → Lex o p → Lex p q → Lex o q
-lex-trans [] p q a b = tt
-lex-trans (v ∷ o) [] q a b = absurd a
-lex-trans (v ∷ o) (u ∷ p) [] a b = b
-lex-trans (v ∷ o) (u ∷ p) (w ∷ q) (inl l) (inl k) = inl (omega arith)
-lex-trans (v ∷ o) (u ∷ p) (w ∷ q) (inl l) (inr k) = inl (omega arith)
-lex-trans (v ∷ o) (u ∷ p) (w ∷ q) (inr l) (inl k) = inl (omega arith)
-lex-trans (v ∷ o) (u ∷ p) (w ∷ q) (inr l) (inr k) = inr (l .0 ∙ k .0, lex-trans o p q (l .1) (k .1))
-
 -- the enumerated orders are the orders
 pub orders-are : (n : ℕ) (o : List ℕ) → In o (orders n) ↔ Order n o
 orders-are n o = (
@@ -179,6 +172,7 @@ orders-are n o = (
   λ p. orders-whole n (below n) (once-from 0 n) (length-from 0 n) o (exactly-iff (λ i h. in-below h) (λ i k. below-in k) p),
 )
 
+-- the definition gives the packed order
 pub packed-is : (n : ℕ) (t : List ℕ) → IsPacked n t (packed n t)
 unfolding packed leastOf
 packed-is n t = go (orders n) refl
@@ -203,6 +197,7 @@ packed-is n t = go (orders n) refl
 
 -- ---- orders in their ten places
 
+-- an order of n flags has n
 pub order-length : (n : ℕ) (o : List ℕ) → Order n o → length o ≡ n
 order-length n o p =
     once-set o (below n) (p .once) (once-from 0 n) (λ i m. in-below (p .sound i m)) (λ i m. p .whole i (below-in m)) ∙ length-from 0 n

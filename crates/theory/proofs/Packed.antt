@@ -1,7 +1,6 @@
 -- The recursion over sets packs a rule: for the count of nodes, what it picks is, of all orders, the dictionary-first with the fewest nodes.
 -- Assumes nothing.
 use mathlib.Core.Path.{_≡_, refl, sym, ap₂, _∙_}
-use mathlib.Core.Logic.{_⊎_, inl, inr}
 use mathlib.Core.List.{List, [], _∷_}
 use Prim.Native.Nat.{ℕ, _+_, _-_, _^_, _≤_, _<_}
 use native.Mathlib.Nat.{le-refl, le-antisymm}
@@ -11,7 +10,7 @@ use Rattle.rule.specs.Bits.{setBit}
 use Rattle.rule.specs.Level.{levelNodes, levelCount, nodesFrom, size}
 use Rattle.theory.proofs.Bits.{clear-le}
 use Rattle.theory.proofs.Friedman.{friedman-set}
-use Rattle.theory.proofs.Dynamic.{Lists, Follows, Lex, total, Solved, follows-least}
+use Rattle.theory.proofs.Dynamic.{Lists, Follows, Lex, lex-antisym, total, Solved, follows-least}
 use Rattle.theory.proofs.Sets.{having, having-exactly, Before, before-full, before-next, member-lt, full-lt, Order, lists-order, order-lists}
 
 -- o is, of all orders of n flags, the dictionary-first with the fewest nodes
@@ -29,14 +28,14 @@ size-from before v o t = length-append (levelNodes before v t) (nodesFrom (v ∷
 unfoldable pub cost : ℕ → List ℕ → ℕ → ℕ → ℕ
 cost n t S v = levelCount (having 0 n S) v t
 
-module _ (n : ℕ) (t : List ℕ) (h : length t ≡ 2 ^ n) where
+module _ (n : ℕ) (t : List ℕ) (fit : length t ≡ 2 ^ n) where
   -- they number the same whatever the sequence of the flags asked before
   pub cost-is : (S : ℕ) (before : List ℕ) → Before n S before → (v : ℕ) → levelCount before v t ≡ cost n t S v
   unfolding cost
   cost-is S before p v =
       let q = having-exactly 0 n S in
       friedman-set n before (having 0 n S) (p .once) (q .once) (λ i m. q .whole i (p .sound i m)) (λ i m. p .whole i (q .sound i m))
-      (λ i m. p .sound i m .0) t h v
+      (λ i m. p .sound i m .0) t fit v
 
   size-total : (S : ℕ) (before o : List ℕ) → S < 2 ^ n → Before n S before → Lists S o → length (nodesFrom before o t) ≡ total (cost n t) S o
   unfolding nodesFrom
@@ -64,17 +63,7 @@ module _ (n : ℕ) (t : List ℕ) (h : length t ≡ 2 ^ n) where
         z ∙ e,
       )
 
--- ---- there is one packed order
-
-lex-antisym : (o p : List ℕ) → Lex o p → Lex p o → o ≡ p
-lex-antisym [] [] a b = refl
-lex-antisym [] (u ∷ p) a b = absurd b
-lex-antisym (v ∷ o) [] a b = absurd a
-lex-antisym (v ∷ o) (u ∷ p) (inl l) (inl k) = absurd (omega arith)
-lex-antisym (v ∷ o) (u ∷ p) (inl l) (inr k) = absurd (omega arith)
-lex-antisym (v ∷ o) (u ∷ p) (inr l) (inl k) = absurd (omega arith)
-lex-antisym (v ∷ o) (u ∷ p) (inr l) (inr k) = ap₂ {C = List ℕ} _∷_ (l .0) (lex-antisym o p (l .1) (k .1))
-
+-- there is one packed order
 pub packed-one : (n : ℕ) (t o p : List ℕ) → IsPacked n t o → IsPacked n t p → o ≡ p
 packed-one n t o p a b =
     let e : size p t ≡ size o t = le-antisymm (b .fewest o (a .order)) (a .fewest p (b .order)) in

@@ -1,7 +1,7 @@
--- Lists without repeats, and permutations: the kit's List·Permᴰ, over membership that is not truncated and native lengths.
+-- Lists without repeats, and permutations of them.
 -- Assumes nothing.
 use mathlib.Core.Path.{_≡_, refl, sym, ap, _∙_}
-use mathlib.Core.Logic.{_≢_, ⊎-elim}
+use mathlib.Core.Logic.{_≢_, inl, inr}
 use mathlib.Core.Bool.{Bool, true, false}
 use mathlib.Core.List.{List, [], _∷_}
 use Prim.Native.Nat.{ℕ, zero, suc, _≤_, zero-le}
@@ -12,6 +12,8 @@ use Rattle.rule.specs.Tests.{addIf, keep}
 use Rattle.theory.proofs.Member.{In, head, tail, cases-cons, cast, Perm, nil, cons, swap, trans, perm-refl, perm-sym}
 use Rattle.theory.proofs.Bits.{from-in}
 use Rattle.theory.proofs.Tests.{keep-in}
+
+-- ---- without repeats
 
 module _ {A : Type 0} where
   -- no member stands twice
@@ -34,15 +36,18 @@ module _ {A : Type 0} where
 
   -- a member that is not the first is one of the rest
   pub later : {x y : A} {xs : List A} → x ≢ y → In y (x ∷ xs) → In y xs
-  later d m = ⊎-elim (λ e. absurd (d (sym e))) (λ k. k) (cases-cons m)
+  later d m = elim (cases-cons m) [ inl e ↦ absurd (d (sym e)) | inr k ↦ k ]
 
   -- ---- what a permutation keeps
 
   pub perm-in : {xs ys : List A} → Perm xs ys → Within xs ys
   perm-in nil x m = m
-  perm-in (cons e p) x m = ⊎-elim (λ q. head (q ∙ e)) (λ k. tail (perm-in p x k)) (cases-cons m)
+  perm-in (cons e p) x m = elim (cases-cons m) [ inl q ↦ head (q ∙ e) | inr k ↦ tail (perm-in p x k) ]
   perm-in (swap e f) x m =
-      ⊎-elim (λ q. tail (head (q ∙ e))) (λ k. ⊎-elim (λ q. head (q ∙ f)) (λ j. tail (tail j)) (cases-cons k)) (cases-cons m)
+      elim (cases-cons m) [
+        | inl q ↦ tail (head (q ∙ e))
+        | inr k ↦ elim (cases-cons k) [ inl q ↦ head (q ∙ f) | inr j ↦ tail (tail j) ]
+      ]
   perm-in (trans p q) x m = perm-in q x (perm-in p x m)
 
   pub perm-back : {xs ys : List A} → Perm xs ys → Within ys xs
@@ -58,7 +63,7 @@ module _ {A : Type 0} where
   perm-once nil o = o
   perm-once (cons e p) o = (λ m. o .0 (cast e (perm-back p _ m)), perm-once p (o .1))
   perm-once (swap e f) o = (
-    λ m. ⊎-elim (λ q. o .0 (head (e ∙ sym q ∙ sym f))) (λ k. o .1 .0 (cast f k)) (cases-cons m),
+    λ m. elim (cases-cons m) [ inl q ↦ o .0 (head (e ∙ sym q ∙ sym f)) | inr k ↦ o .1 .0 (cast f k) ],
     (λ m. o .0 (tail (cast e m)), o .1 .1),
   )
   perm-once (trans p q) o = perm-once q (perm-once p o)
@@ -71,7 +76,7 @@ module _ {A : Type 0} where
   pull (tail {x = y} m) = let (zs, p) = pull m in (y ∷ zs, trans (cons refl p) (swap refl refl))
 
   pulled : {x : A} {xs ys zs : List A} → Once (x ∷ xs) → Within (x ∷ xs) ys → Perm ys (x ∷ zs) → Within xs zs
-  pulled o w p u m = ⊎-elim (λ e. absurd (o .0 (cast (sym e) m))) (λ k. k) (cases-cons (perm-in p u (w u (tail m))))
+  pulled o w p u m = later (λ e. o .0 (cast e m)) (perm-in p u (w u (tail m)))
 
   -- what has no repeats and stands within a list is no longer than it
   pub once-length : (xs ys : List A) → Once xs → Within xs ys → length xs ≤ length ys
@@ -88,6 +93,7 @@ module _ {A : Type 0} where
       let (zs, p) = pull (w x (head refl)) in
       trans (cons refl (perm-of-length xs zs (o .1) (pulled o w p) (omega (arith, perm-length p)))) (perm-sym p)
 
+  -- lists without repeats that have the same members are permutations of each other, and equally long
   pub perm-of-set : (xs ys : List A) → Once xs → Once ys → Within xs ys → Within ys xs → Perm xs ys
   perm-of-set xs ys o q w r = perm-of-length xs ys o w (once-length ys xs q r)
 

@@ -2,7 +2,7 @@
 -- Assumes nothing.
 use mathlib.Core.Path.{_≡_, refl, sym, ap, _∙_}
 use mathlib.Core.Logic.{_≢_}
-use mathlib.Core.List.{List, [], _∷_, List·Memᴰ as In, List·Memᴰ·head as head, List·Memᴰ·not-nil as not-nil}
+use mathlib.Core.List.{List, [], _∷_}
 use Prim.Native.Nat.{ℕ, zero, suc, _+_, _-_, _^_, _≤_, _<_}
 use native.Mathlib.Nat.{le-refl, le-trans, le-of-lt, not-suc-le-zero}
 use native.Mathlib.Omega.{arith}
@@ -10,21 +10,14 @@ use lib.ListN.{length}
 use Rattle.rule.specs.Bits.{bit, setBit}
 use Rattle.rule.specs.Level.{size}
 use Rattle.rule.specs.Order.{packed}
+use Rattle.theory.proofs.Member.{In, head, not-nil}
 use Rattle.theory.proofs.Bits.{bit-zero, clear-lt}
 use Rattle.theory.proofs.Perm.{Exactly}
 use Rattle.theory.proofs.Least.{Pairwise, Rising, firstOf, IsFirst, first-of}
-use Rattle.theory.proofs.Dynamic.{Follows, Solved}
+use Rattle.theory.proofs.Dynamic.{Follows, Solved, IsLeast, follows-least}
 use Rattle.theory.proofs.Sets.{full-lt, member-lt, empty, having, having-exactly, having-rising}
 use Rattle.theory.proofs.Packed.{cost, packs, packed-one}
 use Rattle.theory.proofs.Orders.{packed-is}
-
--- any solution of the recursion finds `packed`
-pub dynamic-packs : (n : ℕ) (t : List ℕ) (h : length t ≡ 2 ^ n) (best pick : ℕ → ℕ) → Solved (cost n t) (2 ^ n - 1) best pick
-    → (o : List ℕ) → Follows pick (2 ^ n - 1) o → (o ≡ packed n t) × (size (packed n t) t ≡ best (2 ^ n - 1))
-dynamic-packs n t h best pick s o f =
-    let (p, e) = packs n t h best pick s o f in
-    let q = packed-one n t o (packed n t) p (packed-is n t) in
-    (q, rw q at e)
 
 -- ---- the smallest of a rising list of flags at which f is least, and its value there
 
@@ -104,12 +97,16 @@ module _ (c : ℕ → ℕ → ℕ) (n : ℕ) where
   unfolding bestFor bestOf via
   best-is S h = sym (stable (2 ^ n - 1) S h)
 
+  member : (S v : ℕ) → S ≤ 2 ^ n - 1 → bit S v ≡ 1 → In v (having 1 n S)
+  member S v h e = having-exactly 1 n S .whole v (member-lt n S v (omega (arith, full-lt n)) e, e)
+
   -- the picked flag, where S has one
   picked : (S v : ℕ) → S ≤ 2 ^ n - 1 → bit S v ≡ 1 → IsFirst (via S) _≤_ (having 1 n S) (pickOf S) × (bestOf S ≡ via S (pickOf S))
   unfolding pickOf
-  picked S v h e =
-      let m = having-exactly 1 n S .whole v (member-lt n S v (omega (arith, full-lt n)) e, e) in
-      (pick-first (via S) (having 1 n S) (having-rising 1 n S) v m, best-is S h ∙ value-at (via S) (having 1 n S) v m)
+  picked S v h e = (
+    pick-first (via S) (having 1 n S) (having-rising 1 n S) v (member S v h e),
+    best-is S h ∙ value-at (via S) (having 1 n S) v (member S v h e),
+  )
 
   some : (S : ℕ) → S ≤ 2 ^ n - 1 → S ≢ 0 → (v : ℕ) × (bit S v ≡ 1)
   some S h d = go (having 1 n S) (having-exactly 1 n S)
@@ -120,6 +117,7 @@ module _ (c : ℕ → ℕ → ℕ) (n : ℕ) where
           absurd (d (empty n S b (λ i e. not-nil (p .whole i (member-lt n S i b e, e)))))
       go (v ∷ vs) p = (v, p .sound v (head refl) .1)
 
+  -- so best and pick are a solution
   solved : Solved c (2 ^ n - 1) bestOf pickOf
   unfolding via
   solved =
@@ -130,9 +128,6 @@ module _ (c : ℕ → ℕ → ℕ) (n : ℕ) where
         reached = λ S h d. let (v, e) = some S h d in picked S v h e .1;
         first = λ S v h e k. let (p, q) = picked S v h e in p .first v (member S v h e) (sym k ∙ q);
       }
-    where
-      member : (S v : ℕ) → S ≤ 2 ^ n - 1 → bit S v ≡ 1 → In v (having 1 n S)
-      member S v h e = having-exactly 1 n S .whole v (member-lt n S v (omega (arith, full-lt n)) e, e)
 
   follows : (k S : ℕ) → S ≤ k → S ≤ 2 ^ n - 1 → Follows pickOf S (chosen pickOf k S)
   unfolding chosen
@@ -143,13 +138,29 @@ module _ (c : ℕ → ℕ → ℕ) (n : ℕ) where
       let l = clear-lt (suc S) (pickOf (suc S)) (solved .member (suc S) b d) in
       (d, refl, follows k (setBit (suc S) (pickOf (suc S)) 0) (omega arith) (omega arith))
 
+  -- the order that the recursion finds
+  pub dynamic : List ℕ
+  dynamic = chosen pickOf (2 ^ n - 1) (2 ^ n - 1)
+
+  dynamic-follows : Follows pickOf (2 ^ n - 1) dynamic
+  unfolding dynamic
+  dynamic-follows = follows (2 ^ n - 1) (2 ^ n - 1) (le-refl _) (le-refl _)
+
+  -- it costs least of all orders, and stands first of those that do
+  pub dynamic-least : IsLeast c (2 ^ n - 1) dynamic
+  dynamic-least = follows-least c (2 ^ n - 1) bestOf pickOf solved (2 ^ n - 1) dynamic (le-refl _) dynamic-follows .0
+
 -- ---- for the count of nodes
 
-pub dynamic : ℕ → List ℕ → List ℕ
-dynamic n t = chosen (pickOf (cost n t) n) (2 ^ n - 1) (2 ^ n - 1)
+module _ (n : ℕ) (t : List ℕ) (fit : length t ≡ 2 ^ n) where
+  -- any solution of the recursion finds `packed`
+  pub dynamic-packs : (best pick : ℕ → ℕ) → Solved (cost n t) (2 ^ n - 1) best pick → (o : List ℕ) → Follows pick (2 ^ n - 1) o
+      → (o ≡ packed n t) × (size (packed n t) t ≡ best (2 ^ n - 1))
+  dynamic-packs best pick s o f =
+      let (p, e) = packs n t fit best pick s o f in
+      let q = packed-one n t o (packed n t) p (packed-is n t) in
+      (q, rw q at e)
 
-pub dynamic-is-packed : (n : ℕ) (t : List ℕ) → length t ≡ 2 ^ n → dynamic n t ≡ packed n t
-unfolding dynamic
-dynamic-is-packed n t h =
-    dynamic-packs n t h (bestOf (cost n t) n) (pickOf (cost n t) n) (solved (cost n t) n) _
-    (follows (cost n t) n (2 ^ n - 1) (2 ^ n - 1) (le-refl _) (le-refl _)) .0
+  -- so the recursion, as a function, does
+  pub dynamic-is-packed : dynamic (cost n t) n ≡ packed n t
+  dynamic-is-packed = dynamic-packs (bestOf (cost n t) n) (pickOf (cost n t) n) (solved (cost n t) n) _ (dynamic-follows (cost n t) n) .0

@@ -1,17 +1,18 @@
 -- Sets of flags as numbers: their members, the flags that a set lacks, and the orders of a set's flags.
 -- Assumes nothing.
 use mathlib.Core.Path.{_≡_, refl, sym, ap, _∙_}
-use mathlib.Core.Logic.{_≢_, _⊎_, inl, inr, ⊎-elim}
+use mathlib.Core.Logic.{_≢_, _⊎_, inl, inr}
 use mathlib.Core.Bool.{Bool}
-use mathlib.Core.List.{List, [], _∷_, List·Memᴰ as In, List·Memᴰ·head as head, List·Memᴰ·tail as tail, List·Memᴰ·not-nil as not-nil, List·Memᴰ·cases-cons as cases-cons, Memᴰ·cast as cast}
+use mathlib.Core.List.{List, [], _∷_}
 use Prim.Native.Nat.{ℕ, zero, suc, _-_, _/_, _^_, _<_}
-use native.Mathlib.Nat.{le-of-suc-le-suc, not-suc-le-zero, eq-or-lt-of-le}
+use native.Mathlib.Nat.{le-of-suc-le-suc, not-suc-le-zero}
 use native.Mathlib.Decide.{ℕ-discrete, decLt}
 use native.Mathlib.Omega.{arith}
 use lib.Dec.{eqb}
 use borrow.Author.Tests.{eqb-true, eq-eqb}
 use Rattle.rule.specs.Bits.{bit, setBit, below}
 use Rattle.rule.specs.Tests.{keep}
+use Rattle.theory.proofs.Member.{head, tail, not-nil, cast}
 use Rattle.theory.proofs.Bits.{below-in, in-below, bit-lt, bit-zero, bit-high, bits-eq, bit-same, bit-other, clear-le}
 use Rattle.theory.proofs.Tests.{keep-in, in-keep}
 use Rattle.theory.proofs.Perm.{Exactly, exactly-iff, once-keep, once-from, later}
@@ -33,12 +34,9 @@ bit-full (suc n) (suc i) h =
     let e : (2 ^ suc n - 1) / 2 ≡ 2 ^ n - 1 = omega arith in
     rw e (bit-full n i (le-of-suc-le-suc h))
 
+-- a set below 2 ^ n has members below n only
 pub member-lt : (n S v : ℕ) → S < 2 ^ n → bit S v ≡ 1 → v < n
-member-lt n S v h e = go (decLt v n)
-  where
-    go : Dec (v < n) → v < n
-    go (yes l) = l
-    go (no d) = absurd (omega (arith, bit-high n S v h (omega arith)))
+member-lt n S v h e = elim (decLt v n) [ yes l ↦ l | no d ↦ absurd (omega (arith, bit-high n S v h (omega arith))) ]
 
 -- a set with no member is 0
 pub empty : (n S : ℕ) → S < 2 ^ n → ((i : ℕ) → bit S i ≢ 1) → S ≡ 0
@@ -76,19 +74,21 @@ before-full n =
 
 -- bit i of S without v
 cleared : (S v i : ℕ) → ((v ≡ i) × (bit (setBit S v 0) i ≡ 0)) ⊎ ((v ≢ i) × (bit (setBit S v 0) i ≡ bit S i))
-cleared S v i = go (ℕ-discrete v i)
-  where
-    go : Dec (v ≡ i) → ((v ≡ i) × (bit (setBit S v 0) i ≡ 0)) ⊎ ((v ≢ i) × (bit (setBit S v 0) i ≡ bit S i))
-    go (yes e) = inl (e, rw (← e) (bit-same S v 0 (omega arith)))
-    go (no d) = inr (d, bit-other S v i 0 (omega arith) d)
+cleared S v i =
+    elim (ℕ-discrete v i) [
+      | yes e ↦ inl (e, rw (← e) (bit-same S v 0 (omega arith)))
+      | no d ↦ inr (d, bit-other S v i 0 (omega arith) d)
+    ]
 
+-- one flag more is asked: v leaves S
 pub before-next : (n S v : ℕ) (l : List ℕ) → v < n → bit S v ≡ 1 → Before n S l → Before n (setBit S v 0) (v ∷ l)
 before-next n S v l h e p =
     record {
       once = (λ m. omega (arith, p .sound v m), p .once);
       sound = λ i m.
-          ⊎-elim (λ q. (omega arith, q .1)) (λ q. let k = p .sound i (later (q .0) m) in (k .0, q .1 ∙ k .1)) (cleared S v i);
-      whole = λ i k. ⊎-elim (λ q. head (sym (q .0))) (λ q. tail (p .whole i (k .0, sym (q .1) ∙ k .1))) (cleared S v i);
+          elim (cleared S v i) [ inl q ↦ (omega arith, q .1) | inr q ↦ let k = p .sound i (later (q .0) m) in (k .0, q .1 ∙ k .1) ];
+      whole = λ i k.
+          elim (cleared S v i) [ inl q ↦ head (sym (q .0)) | inr q ↦ tail (p .whole i (k .0, sym (q .1) ∙ k .1)) ];
     }
 
 -- ---- the orders of the flags of a set
@@ -105,8 +105,8 @@ lists-exactly S (v ∷ o) l =
     record {
       once = (λ m. omega (arith, p .sound v m, bit-same S v 0 (omega arith)), p .once);
       sound = λ i m.
-          ⊎-elim (λ q. rw (← (q .0)) (l .0)) (λ q. sym (q .1) ∙ p .sound i (later (q .0) m)) (cleared S v i);
-      whole = λ i e. ⊎-elim (λ q. head (sym (q .0))) (λ q. tail (p .whole i (q .1 ∙ e))) (cleared S v i);
+          elim (cleared S v i) [ inl q ↦ rw (← (q .0)) (l .0) | inr q ↦ sym (q .1) ∙ p .sound i (later (q .0) m) ];
+      whole = λ i e. elim (cleared S v i) [ inl q ↦ head (sym (q .0)) | inr q ↦ tail (p .whole i (q .1 ∙ e)) ];
     }
 
 exactly-lists : (n S : ℕ) (o : List ℕ) → S < 2 ^ n → Exactly (λ (i : ℕ). bit S i ≡ 1) o → Lists S o
@@ -116,8 +116,10 @@ exactly-lists n S (v ∷ o) h p = (
   exactly-lists n (setBit S v 0) o (omega (arith, clear-le S v))
       (record {
         once = p .once .1;
-        sound = λ i m. ⊎-elim (λ q. absurd (p .once .0 (cast (q .0) m))) (λ q. q .1 ∙ p .sound i (tail m)) (cleared S v i);
-        whole = λ i e. ⊎-elim (λ q. absurd (omega (arith, q .1))) (λ q. later (q .0) (p .whole i (sym (q .1) ∙ e))) (cleared S v i);
+        sound = λ i m.
+            elim (cleared S v i) [ inl q ↦ absurd (p .once .0 (cast (q .0) m)) | inr q ↦ q .1 ∙ p .sound i (tail m) ];
+        whole = λ i e.
+            elim (cleared S v i) [ inl q ↦ absurd (omega (arith, q .1)) | inr q ↦ later (q .0) (p .whole i (sym (q .1) ∙ e)) ];
       }),
 )
 

@@ -1,9 +1,9 @@
 -- What the tests of lists and tables say, and the members of a list that pass one.
 -- Assumes nothing.
 use mathlib.Core.Path.{_≡_, refl, sym, ap, ap₂, _∙_}
-use mathlib.Core.Logic.{_⊎_, inl, inr, ⊎-elim}
+use mathlib.Core.Logic.{_⊎_, inl, inr}
 use mathlib.Core.Bool.{Bool, true, false, _&&_, true≢false, false≢true}
-use mathlib.Core.List.{List, [], _∷_, List·Memᴰ as In, List·Memᴰ·head as head, List·Memᴰ·tail as tail, List·Memᴰ·not-nil as not-nil, List·Memᴰ·cases-cons as cases-cons}
+use mathlib.Core.List.{List, [], _∷_}
 use Prim.Native.Nat.{ℕ, zero, suc, _<_, suc-le-suc}
 use native.Mathlib.Omega.{arith}
 use borrow.Author.Tests.{eqb-true, eq-eqb}
@@ -11,10 +11,12 @@ use lib.Dec.{eqb}
 use lib.ListN.{length, getD}
 use Rattle.rule.specs.Bits.{below}
 use Rattle.rule.specs.Tests.{each, addIf, keep, same, among}
+use Rattle.theory.proofs.Member.{In, head, tail, not-nil, cases-cons}
 use Rattle.theory.proofs.Bits.{below-in, in-below}
 
 -- ---- a test and the fact that it tests
 
+-- the test passes and P holds, or it fails and P does not
 abbrev pub Tested : Bool → Type 0 → Type 0
 Tested b P = ((b ≡ true) × P) ⊎ ((b ≡ false) × (P → ⊥))
 
@@ -50,31 +52,32 @@ pub among? : (t : List ℕ) (us : List (List ℕ)) → Tested (among t us) (In t
 unfolding among
 among? t [] = inr (refl, not-nil)
 among? t (u ∷ us) =
-    ⊎-elim
-    (λ h. inl (rw (h .0), head (h .1)))
-    (λ h.
-    ⊎-elim
-    (λ k. inl (rw (h .0, k .0), tail (k .1)))
-    (λ k. inr (rw (h .0, k .0), λ m. ⊎-elim (h .1) (k .1) (cases-cons m)))
-    (among? t us))
-    (same? t u)
+    elim (same? t u) [
+      | inl h ↦ inl (rw (h .0), head (h .1))
+      | inr h ↦
+          elim (among? t us) [
+            | inl k ↦ inl (rw (h .0, k .0), tail (k .1))
+            | inr k ↦ inr (rw (h .0, k .0), λ m. elim (cases-cons m) [ inl e ↦ h .1 e | inr j ↦ k .1 j ])
+          ]
+    ]
 
 -- ---- each member passes, and the members that pass
 
 module _ {A : Type 0} (p : A → Bool) where
+  -- each passes: by the member
   pub each-in : (l : List A) → each p l ≡ true → {x : A} → In x l → p x ≡ true
   unfolding each
   each-in [] e m = absurd (not-nil m)
   each-in (y ∷ l) e m =
       let h = and-split (p y) (each p l) e in
-      ⊎-elim (λ q. ap p q ∙ h .0) (λ k. each-in l (h .1) k) (cases-cons m)
+      elim (cases-cons m) [ inl q ↦ ap p q ∙ h .0 | inr k ↦ each-in l (h .1) k ]
 
   pub in-each : (l : List A) → ((x : A) → In x l → p x ≡ true) → each p l ≡ true
   unfolding each
   in-each [] f = refl
   in-each (x ∷ l) f = and-join (f x (head refl)) (in-each l (λ y m. f y (tail m)))
 
-  -- the same by the index: of a member, or of the default past the end
+  -- by the index, past the end for the default
   pub each-at : (l : List A) (d : A) → each p l ≡ true → p d ≡ true → (k : ℕ) → p (getD l k d) ≡ true
   unfolding each
   each-at [] d e h k = h
@@ -86,13 +89,14 @@ module _ {A : Type 0} (p : A → Bool) where
   at-each [] d f = refl
   at-each (x ∷ l) d f = and-join (f 0 (omega arith)) (at-each l d (λ k h. f (suc k) (suc-le-suc h)))
 
+  -- what is kept is a member that passes
   pub keep-in : {x : A} (l : List A) → In x (keep p l) → In x l × (p x ≡ true)
   unfolding keep
   keep-in [] m = absurd (not-nil m)
   keep-in {x} (y ∷ l) m = go (p y) refl m (λ k. keep-in l k)
     where
       go : (b : Bool) → p y ≡ b → In x (addIf b y (keep p l)) → (In x (keep p l) → In x l × (p x ≡ true)) → In x (y ∷ l) × (p x ≡ true)
-      go true e k ih = ⊎-elim (λ h. (head h, ap p h ∙ e)) (λ h. let r = ih h in (tail (r .0), r .1)) (cases-cons k)
+      go true e k ih = elim (cases-cons k) [ inl q ↦ (head q, ap p q ∙ e) | inr j ↦ let r = ih j in (tail (r .0), r .1) ]
       go false e k ih = let r = ih k in (tail (r .0), r .1)
 
   pub in-keep : {x : A} (l : List A) → In x l → p x ≡ true → In x (keep p l)
@@ -106,6 +110,7 @@ module _ {A : Type 0} (p : A → Bool) where
       go false e (inl k) ih = absurd (true≢false (sym h ∙ ap p k ∙ e))
       go false e (inr k) ih = ih k
 
+-- each number below n passes
 pub each-below : (p : ℕ → Bool) (n : ℕ) → each p (below n) ≡ true → (k : ℕ) → k < n → p k ≡ true
 each-below p n e k h = each-in p (below n) e (in-below h)
 
