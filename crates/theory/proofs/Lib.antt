@@ -11,3 +11,4 @@ pub mod Sets
 pub mod Packed
 pub mod Orders
 pub mod Search
+pub mod Scan

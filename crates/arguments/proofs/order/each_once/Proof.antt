@@ -11,7 +11,7 @@ use borrow.Author.Tests.{eq-eqb, ne-eqb}
 use lib.Dec.{eqb}
 use Rattle.rule.specs.Order.{flags, times, eachOnce}
 use Rattle.theory.proofs.Tests.{below-each}
-use Rattle.arguments.proofs.Scan.{fails-below}
+use Rattle.theory.proofs.Scan.{fails-below}
 use Rattle.arguments.proofs.order.each_once.Statement.{statement}
 use Rattle.arguments.proofs.order.each_once.Tie as tie
 

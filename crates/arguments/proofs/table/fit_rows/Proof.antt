@@ -11,7 +11,8 @@ use borrow.Author.Tests.{lt-ltb, le-ltb}
 use lib.Dec.{ltb}
 use lib.ListN.{length, getD}
 use Rattle.rule.specs.Table.{fitRows}
-use Rattle.arguments.proofs.Scan.{fails-at, holds-at}
+use Rattle.theory.proofs.Scan.{fails-at}
+use Rattle.theory.proofs.Tests.{at-each}
 use Rattle.arguments.proofs.table.fit_rows.Statement.{statement}
 use Rattle.arguments.proofs.table.fit_rows.Tie as tie
 
@@ -36,7 +37,7 @@ loop-again c = (search needs, below-more _ _ (c .before .before .before .loop .i
 
 returns-2 : tie.Need-returns-2 Inv-loop μ-loop
 unfolding fitRows
-returns-2 c = sym (holds-at (λ x. ltb x 2) _ (λ k h. c .before .loop .inv .1 k (omega arith)))
+returns-2 c = sym (at-each (λ x. ltb x 2) _ 0 (λ k h. c .before .loop .inv .1 k (omega arith)))
 
 pub fit-rows-spec : {M : Type 1} → statement M
 fit-rows-spec =

@@ -1,0 +1,14 @@
+-- What putting and clearing records leaves in the cells.
+-- Assumes nothing.
+use mathlib.Core.List.{List, _++_}
+use Prim.Native.Nat.{ℕ, _+_, _-_, _*_}
+use lib.ListN.{length, take, set, replicate}
+use Rattle.rule.specs.Cells.{width}
+
+-- the cells with a record at place k
+unfoldable pub putRecord : List ℕ → ℕ → ℕ → ℕ → ℕ → List ℕ
+putRecord c k flag low high = set (set (set c (k * width) flag) (k * width + 1) low) (k * width + 2) high
+
+-- the cells with 0 from record k on
+unfoldable pub clearFrom : List ℕ → ℕ → List ℕ
+clearFrom c k = take (k * width) c ++ replicate (length c - k * width) 0

@@ -1,0 +1,45 @@
+-- What a loop over a list, over the rest of a list or over the numbers below n learns of a test of each: it fails where one fails. (That it holds where all
+-- hold is `at-each` and `below-each` of Tests.antt, and `drop-holds` here.)
+-- Assumes nothing.
+use mathlib.Core.Path.{_≡_, refl, sym, ap, _∙_}
+use mathlib.Core.Bool.{Bool, true, false, true≢false}
+use mathlib.Core.List.{List, [], _∷_}
+use Prim.Native.Nat.{ℕ, zero, suc, _+_, _-_, _≤_, _<_}
+use native.Mathlib.Nat.{le-of-suc-le-suc, not-suc-le-zero}
+use native.Mathlib.Omega.{arith}
+use lib.ListN.{length, getD, drop, length-drop}
+use lib.Seq.{getD-drop}
+use Rattle.rule.specs.Bits.{below}
+use Rattle.rule.specs.Tests.{each}
+use Rattle.theory.proofs.Member.{In, head, tail}
+use Rattle.theory.proofs.Bits.{in-below}
+use Rattle.theory.proofs.Tests.{each-in, at-each}
+
+pub at-in : (l : List ℕ) (i : ℕ) → i < length l → In (getD l i 0) l
+at-in [] i h = absurd (not-suc-le-zero h)
+at-in (x ∷ l) zero h = head refl
+at-in (x ∷ l) (suc i) h = tail (at-in l i (le-of-suc-le-suc h))
+
+module _ (p : ℕ → Bool) where
+  fails-in : {x : ℕ} (l : List ℕ) → In x l → p x ≡ false → each p l ≡ false
+  fails-in l m f = go (each p l) refl
+    where
+      go : (b : Bool) → each p l ≡ b → each p l ≡ false
+      go true e = absurd (true≢false (sym (each-in p l e m) ∙ f))
+      go false e = e
+
+  pub fails-at : (l : List ℕ) (i : ℕ) → i < length l → p (getD l i 0) ≡ false → each p l ≡ false
+  fails-at l i h f = fails-in l (at-in l i h) f
+
+  pub fails-below : (n k : ℕ) → k < n → p k ≡ false → each p (below n) ≡ false
+  fails-below n k h f = fails-in (below n) (in-below h) f
+
+  pub drop-fails : (a : ℕ) (l : List ℕ) (i : ℕ) → a ≤ i → i < length l → p (getD l i 0) ≡ false → each p (drop a l) ≡ false
+  drop-fails a l i h k f =
+      let e : a + (i - a) ≡ i = omega arith in
+      fails-at (drop a l) (i - a) (simp length-drop (omega arith)) (ap p (getD-drop a l (i - a) 0 ∙ ap (λ (x : ℕ). getD l x 0) e) ∙ f)
+
+  pub drop-holds : (a : ℕ) (l : List ℕ) → ((k : ℕ) → a ≤ k → k < length l → p (getD l k 0) ≡ true) → each p (drop a l) ≡ true
+  drop-holds a l f =
+      at-each p (drop a l) 0
+      (λ i h. let q : i < length l - a = simp length-drop at h in ap p (getD-drop a l i 0) ∙ f (a + i) (omega arith) (omega arith))
