@@ -5,7 +5,7 @@ use Prim.Native.Nat.{ℕ, zero, suc, _+_, _/_, _%_, _^_, _*_, _≤_, _<_, zero-l
 use native.Mathlib.Nat.{pow-suc}
 use native.Mathlib.Omega.{arith}
 use lib.Bits.{bitAnd, and-step}
-use lib.Count.{ones, onesIn, ones-step}
+use lib.Count.{ones, onesIn, ones-step, ones-le}
 
 pub ones-in : (d x : ℕ) → x < 2 ^ d → ones x ≡ onesIn d x
 unfolding ones onesIn
@@ -39,3 +39,7 @@ whole (suc d) a b h g e c =
     let same : onesIn d (a / 2) ≡ onesIn d (b / 2) = omega arith in
     let top : a / 2 ≡ b / 2 = whole d (a / 2) (b / 2) (omega arith) (omega arith) (halves a b e) same in
     omega arith
+
+-- ten flags at most
+pub size-le : (x : ℕ) → x < 1024 → onesIn 10 x < 11
+size-le x h = omega (arith, ones-le 10 x h, ones-in 10 x h)
