@@ -12,3 +12,12 @@ pub mod Packed
 pub mod Orders
 pub mod Search
 pub mod Scan
+pub mod Sound
+pub mod Walks
+pub mod Levels
+pub mod Canonical
+pub mod Reach
+pub mod Reduced
+pub mod Descents
+pub mod Counting
+pub mod Growth

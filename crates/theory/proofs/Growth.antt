@@ -1,0 +1,60 @@
+-- How a store grows: older records stay as they are, and each new record's table is one that the result calls for.
+-- Assumes nothing.
+use mathlib.Core.Path.{_≡_, refl, sym, ap, subst, _∙_}
+use mathlib.Core.Logic.{_⊎_, inl, inr, ⊎-elim}
+use mathlib.Core.List.{List, [], _∷_, map}
+use Prim.Native.Nat.{ℕ, zero, suc, _+_, _*_, _≤_, _<_}
+use native.Mathlib.Decide.{decLt}
+use native.Mathlib.Omega.{arith}
+use lib.ListN.{length, getD, length-map}
+use Rattle.rule.specs.Bits.{below}
+use Rattle.rule.specs.Order.{flags, level}
+use Rattle.rule.specs.Cells.{width, room, flagAt, lowAt, highAt, recordOf}
+use Rattle.rule.specs.Diagram.{tableOf}
+use Rattle.rule.specs.Results.{recordTables}
+use Rattle.theory.proofs.Member.{In, head, tail, map-in, cases-cons}
+use Rattle.theory.proofs.Bits.{below-in, in-below, length-from}
+use Rattle.theory.proofs.Perm.{Once, Within, once-length, once-from}
+use Rattle.theory.proofs.Sets.{Order}
+use Rattle.theory.proofs.Sound.{Sound}
+use Rattle.theory.proofs.Walks.{smaller, table-kept, flag-kept}
+use Rattle.theory.proofs.Canonical.{levelOf, canonical}
+
+-- the cells d with `more` records have grown from c with `used`
+pub record Grows (n : ℕ) (order : List ℕ) (goal : List (List ℕ)) (c : List ℕ) (used : ℕ) (d : List ℕ) (more : ℕ) : Type 0 where
+  pub lent : length d ≡ length c
+  pub is-sound : Sound n order d more
+  pub grown : used ≤ more
+  pub old : (i : ℕ) → i < used * width → getD d i 0 ≡ getD c i 0
+  pub within : (k : ℕ) → used ≤ k → k < more → In (tableOf n d (k + 2)) goal
+
+pub grows-none : {n used : ℕ} {order c : List ℕ} (goal : List (List ℕ)) → Sound n order c used → Grows n order goal c used c used
+grows-none goal s = record { lent = refl; is-sound = s; grown = omega arith; old = λ i h. refl; within = λ k h l. absurd (omega arith) }
+
+-- an older node keeps its table
+pub older : {n used more : ℕ} {order c d : List ℕ} {goal : List (List ℕ)} → Sound n order c used → Grows n order goal c used d more → (m : ℕ) → m ≤ used + 1
+    → tableOf n d m ≡ tableOf n c m
+older {n} {used} {more} {order} {c} {d} s g m h = sym (table-kept c d used (λ i l. sym (g .old i l)) (smaller s) n m h)
+
+pub grows-more : {n used more most : ℕ} {order c d e : List ℕ} {goal : List (List ℕ)}
+    → Grows n order goal c used d more → Grows n order goal d more e most → Grows n order goal c used e most
+grows-more {n} {used} {more} {most} {order} {c} {d} {e} {goal} f g =
+    let a = f .grown in
+    let b = g .grown in
+    record {
+      lent = g .lent ∙ f .lent;
+      is-sound = g .is-sound;
+      grown = omega arith;
+      old = λ i h. g .old i (omega arith) ∙ f .old i h;
+      within = λ k h l. go k h l (decLt k more);
+    }
+  where
+    go : (k : ℕ) → used ≤ k → k < most → Dec (k < more) → In (tableOf n e (k + 2)) goal
+    go k h l (yes x) = rw (older (f .is-sound) g (k + 2) (omega arith)) (f .within k h x)
+    go k h l (no x) = g .within k (omega arith) l
+
+-- every goal that has the tables of another will do
+pub grows-for : {n used more : ℕ} {order c d : List ℕ} {goal aim : List (List ℕ)} → Within goal aim → Grows n order goal c used d more
+    → Grows n order aim c used d more
+grows-for w g =
+    record { lent = g .lent; is-sound = g .is-sound; grown = g .grown; old = g .old; within = λ k h l. w _ (g .within k h l) }
