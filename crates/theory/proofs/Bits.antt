@@ -4,7 +4,7 @@ use mathlib.Core.Path.{_≡_, refl, sym, ap, _∙_}
 use mathlib.Core.Logic.{_≢_, inl, inr}
 use mathlib.Core.List.{map}
 use Prim.Native.Nat.{ℕ, zero, suc, _+_, _*_, _/_, _%_, _^_, _≤_, _<_, suc-le-suc}
-use native.Mathlib.Nat.{add-zero, zero-add, le-of-suc-le-suc, not-suc-le-zero, eq-or-lt-of-le}
+use native.Mathlib.Nat.{add-zero, zero-add, le-of-suc-le-suc, not-suc-le-zero, eq-or-lt-of-le, div-one, div-div-eq-div-mul, pow-succ'}
 use native.Mathlib.Omega.{arith}
 use lib.ListN.{length, getD}
 use Rattle.rule.specs.Bits.{bit, setBit, from, below}
@@ -128,3 +128,21 @@ pub clear-lt : (r i : ℕ) → bit r i ≡ 1 → setBit r i 0 < r
 unfolding bit setBit
 clear-lt r zero e = omega arith
 clear-lt r (suc i) e = omega (arith, clear-lt (r / 2) i e)
+
+-- ---- shifts and sums, for code
+
+pub bit-shift : (r i : ℕ) → bit r i ≡ r / 2 ^ i % 2
+unfolding bit
+bit-shift r zero = ap (λ (x : ℕ). x % 2) (sym (div-one r))
+bit-shift r (suc i) =
+    bit-shift (r / 2) i ∙ ap (λ (x : ℕ). x % 2) (div-div-eq-div-mul r 2 (2 ^ i) ∙ ap (λ (x : ℕ). r / x) (sym (pow-succ' 2 i)))
+
+pub set-up : (r i : ℕ) → bit r i ≡ 0 → setBit r i 1 ≡ r + 2 ^ i
+unfolding bit setBit
+set-up r zero e = omega arith
+set-up r (suc i) e = omega (arith, set-up (r / 2) i e)
+
+pub set-down : (r i : ℕ) → bit r i ≡ 1 → setBit r i 0 + 2 ^ i ≡ r
+unfolding bit setBit
+set-down r zero e = omega arith
+set-down r (suc i) e = omega (arith, set-down (r / 2) i e)

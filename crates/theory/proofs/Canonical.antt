@@ -36,6 +36,15 @@ pub mix-row : (v : ℕ) (a b : List ℕ) (r : ℕ) → r < length a → getD (mi
 unfolding mix
 mix-row v a b r h = map-below (λ (r : ℕ). cond (eqb (bit r v) 0) (getD a r 0) (getD b r 0)) (length a) r 0 h
 
+-- a table joined with itself is itself
+pub mix-same : (n v : ℕ) (t : List ℕ) → length t ≡ 2 ^ n → mix v t t ≡ t
+mix-same n v t l =
+    rows-eq n (mix v t t) t (length-mix v t t ∙ l) l (λ r h. mix-row v t t r (omega arith) ∙ pick (eqb (bit r v) 0) (getD t r 0))
+  where
+    pick : (b : Bool) (x : ℕ) → cond b x x ≡ x
+    pick true x = refl
+    pick false x = refl
+
 -- a table is joined from its cofactors
 pub mix-cofactors : (n v : ℕ) (t : List ℕ) → length t ≡ 2 ^ n → mix v (cofactor v 0 t) (cofactor v 1 t) ≡ t
 mix-cofactors n v t l =

@@ -18,7 +18,7 @@ use Rattle.rule.specs.Cells.{flagAt, recordOf}
 use Rattle.rule.specs.Diagram.{reach, allReached, tableOf, asking}
 use Rattle.theory.proofs.Bits.{length-from, below-in, in-below}
 use Rattle.theory.proofs.Tests.{keep-in, in-keep}
-use Rattle.theory.proofs.Perm.{Once, Within, Exactly, once-set, once-keep, once-from}
+use Rattle.theory.proofs.Perm.{once-map, Once, Within, Exactly, once-set, once-keep, once-from}
 use Rattle.theory.proofs.Friedman.{level-in, in-level, level-once, friedman-nodes, friedman-set}
 use Rattle.theory.proofs.Sets.{Order}
 use Rattle.theory.proofs.Sound.{Sound}
@@ -31,13 +31,6 @@ use Rattle.theory.proofs.Descents.{descents, fixings-descents, descents
 -- ---- lists without repeats
 
 module _ {A : Type 0} where
-  once-map : {B : Type 0} (f : A → B) (xs : List A) → ((x y : A) → In x xs → In y xs → f x ≡ f y → x ≡ y) → Once xs → Once (map f xs)
-  once-map f [] g o = tt
-  once-map f (x ∷ xs) g o = (
-    λ m. let (y, my, e) = of-map f xs m in o .0 (cast (g x y (head refl) (tail my) (sym e)) my),
-    once-map f xs (λ y z my mz. g y z (tail my) (tail mz)) (o .1),
-  )
-
   once-append : (xs ys : List A) → Once xs → Once ys → ((x : A) → In x xs → In x ys → ⊥) → Once (xs ++ ys)
   once-append [] ys p q d = q
   once-append (x ∷ xs) ys p q d = (

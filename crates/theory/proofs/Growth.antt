@@ -17,8 +17,8 @@ use Rattle.theory.proofs.Bits.{below-in, in-below, length-from}
 use Rattle.theory.proofs.Perm.{Once, Within, once-length, once-from}
 use Rattle.theory.proofs.Sets.{Order}
 use Rattle.theory.proofs.Sound.{Sound}
-use Rattle.theory.proofs.Walks.{smaller, table-kept, flag-kept}
-use Rattle.theory.proofs.Canonical.{levelOf, canonical}
+use Rattle.theory.proofs.Walks.{node, smaller, table-kept, flag-kept}
+use Rattle.theory.proofs.Canonical.{levelOf, level-end, level-record}
 
 -- the cells d with `more` records have grown from c with `used`
 pub record Grows (n : ℕ) (order : List ℕ) (goal : List (List ℕ)) (c : List ℕ) (used : ℕ) (d : List ℕ) (more : ℕ) : Type 0 where
@@ -58,3 +58,15 @@ pub grows-for : {n used more : ℕ} {order c d : List ℕ} {goal aim : List (Lis
     → Grows n order aim c used d more
 grows-for w g =
     record { lent = g .lent; is-sound = g .is-sound; grown = g .grown; old = g .old; within = λ k h l. w _ (g .within k h l) }
+
+-- an older node keeps its level
+pub older-level : {n used more : ℕ} {order c d : List ℕ} {goal : List (List ℕ)} → Grows n order goal c used d more → (m : ℕ) → m ≤ used + 1
+    → levelOf n order d m ≡ levelOf n order c m
+older-level {n} {used} {more} {order} {c} {d} g m h =
+    elim (node m) [
+      | inl l ↦ level-end n order d m l ∙ sym (level-end n order c m l)
+      | inr (k, e) ↦ rw e
+          (level-record n order d k
+          ∙ ap (level (flags n order)) (flag-kept d c used (g .old) k (omega arith))
+          ∙ sym (level-record n order c k))
+    ]

@@ -21,3 +21,5 @@ pub mod Reduced
 pub mod Descents
 pub mod Counting
 pub mod Growth
+pub mod Restrict
+pub mod Refused

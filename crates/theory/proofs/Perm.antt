@@ -3,13 +3,13 @@
 use mathlib.Core.Path.{_≡_, refl, sym, ap, _∙_}
 use mathlib.Core.Logic.{_≢_, inl, inr}
 use mathlib.Core.Bool.{Bool, true, false}
-use mathlib.Core.List.{List, [], _∷_}
+use mathlib.Core.List.{List, [], _∷_, map}
 use Prim.Native.Nat.{ℕ, zero, suc, _≤_, zero-le}
 use native.Mathlib.Omega.{arith}
 use lib.ListN.{length}
 use Rattle.rule.specs.Bits.{from}
 use Rattle.rule.specs.Tests.{addIf, keep}
-use Rattle.theory.proofs.Member.{In, head, tail, cases-cons, cast, Perm, nil, cons, swap, trans, perm-refl, perm-sym}
+use Rattle.theory.proofs.Member.{In, head, tail, cases-cons, cast, map-in, Perm, nil, cons, swap, trans, perm-refl, perm-sym}
 use Rattle.theory.proofs.Bits.{from-in}
 use Rattle.theory.proofs.Tests.{keep-in}
 
@@ -113,3 +113,11 @@ pub once-from : (a k : ℕ) → Once (from a k)
 unfolding from
 once-from a zero = tt
 once-from a (suc k) = (λ m. omega (arith, from-in (suc a) k a m), once-from (suc a) k)
+
+-- a map that tells its arguments apart keeps a list without repeats
+pub once-map : {A B : Type 0} (f : A → B) (xs : List A) → ((x y : A) → In x xs → In y xs → f x ≡ f y → x ≡ y) → Once xs → Once (map f xs)
+once-map f [] g o = tt
+once-map f (x ∷ xs) g o = (
+  λ m. let (y, my, e) = map-in f xs m in o .0 (cast (g x y (head refl) (tail my) (sym e)) my),
+  once-map f xs (λ y z my mz. g y z (tail my) (tail mz)) (o .1),
+)

@@ -9,7 +9,7 @@ use native.Mathlib.Omega.{arith}
 use native.Mathlib.Decide.{ℕ-discrete, decLt}
 use borrow.Author.Tests.{ltb-true, ltb-false, lt-ltb, leb-true, le-leb, eqb-true, eq-eqb}
 use lib.Dec.{eqb, leb, ltb}
-use lib.ListN.{getD, drop}
+use lib.ListN.{getD, drop, replicate}
 use lib.Seq.{getD-drop}
 use Rattle.rule.specs.Bits.{below}
 use Rattle.rule.specs.Tests.{each}
@@ -164,3 +164,23 @@ module _ (n : ℕ) (order c : List ℕ) (used : ℕ) where
       (and-join
       (none-equal c used .1 (λ k h j l q. let e = s .once j k (omega arith) h (q .0) (q .1 .0) (q .1 .1) in omega arith))
       (rest-clear c used .1 (s .clear)))))))
+
+-- cleared cells are sound, with no record used
+pub sound-cleared : (n : ℕ) (order : List ℕ) (k : ℕ) → Sound n order (replicate k 0) 0
+sound-cleared n order k =
+    record {
+      fits = omega arith;
+      flag = λ j h. absurd (omega arith);
+      differ = λ j h. absurd (omega arith);
+      low-smaller = λ j h. absurd (omega arith);
+      high-smaller = λ j h. absurd (omega arith);
+      low-later = λ j h. absurd (omega arith);
+      high-later = λ j h. absurd (omega arith);
+      once = λ i j h. absurd (omega arith);
+      clear = λ i h. zeros k i;
+    }
+  where
+    zeros : (k i : ℕ) → _≡_ {A = ℕ} (getD (replicate k 0) i 0) 0
+    zeros zero i = refl
+    zeros (suc k) zero = refl
+    zeros (suc k) (suc i) = zeros k i

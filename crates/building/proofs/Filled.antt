@@ -1,0 +1,141 @@
+-- A whole drawing from cleared cells: it is the diagram of the table, or the table's diagram has more nodes than there is room for.
+-- Assumes nothing.
+use mathlib.Core.Path.{_≡_, refl, sym, ap, subst, _∙_}
+use mathlib.Core.Logic.{⊎-elim, inl, inr}
+use mathlib.Core.Bool.{true, cond}
+use mathlib.Core.List.{List, [], _∷_, map}
+use Prim.Native.Nat.{ℕ, zero, suc, _+_, _^_, _≤_, _<_}
+use native.Mathlib.Omega.{arith}
+use lib.Dec.{eqb}
+use lib.ListN.{length, getD, replicate, length-replicate, length-map}
+use lib.Pow.{pow-pos}
+use borrow.Author.Tests.{eq-eqb, ne-eqb}
+use Rattle.rule.specs.Bits.{below}
+use Rattle.rule.specs.Level.{nodesOf, size}
+use Rattle.rule.specs.Order.{flags}
+use Rattle.rule.specs.Cells.{room}
+use Rattle.rule.specs.Diagram.{tableOf, diagram}
+use Rattle.rule.specs.Results.{rootBy}
+use Rattle.rule.specs.Calls.{Draws}
+use Rattle.theory.proofs.Member.{In, map-in, cast, cases-cons}
+use Rattle.theory.proofs.Bits.{below-in, length-from}
+use Rattle.theory.proofs.Perm.{Once, Within, once-length, once-from, once-map}
+use Rattle.theory.proofs.Sets.{Order}
+use Rattle.theory.proofs.Orders.{fit-order-is}
+use Rattle.theory.proofs.Sound.{Sound, view-sound, sound-cleared}
+use Rattle.theory.proofs.Walks.{smaller, walk-end, table-row}
+use Rattle.theory.proofs.Canonical.{canonical}
+use Rattle.theory.proofs.Reach.{Diagram, all-reached, view-diagram, root-last}
+use Rattle.theory.proofs.Counting.{drawn-all-reached, used-size}
+use Rattle.theory.proofs.Restrict.{restrict}
+use Rattle.unique.specs.declared.Grown.{Grown}
+use Rattle.unique.specs.declared.Found.the-variants.{Full}
+use Rattle.unique.specs.Node.{grown}
+use Rattle.building.specs.Draw.{Drawing, Draw}
+use Rattle.building.specs.Fill.{Fits, Filled, Unfilled}
+
+-- what drawing is given at the root
+pub start : {n : ℕ} {t order c : List ℕ} → Fits n t order c → Drawing n t order 0 0 (replicate (length c) 0) 0
+start {n} {t} {order} {c} f =
+    record {
+      few = f .few;
+      rows = f .rows;
+      bits = f .bits;
+      order-fits = f .order-fits;
+      level = omega arith;
+      row-fits = pow-pos n;
+      is-sound = view-sound n order (replicate (length c) 0) 0 (sound-cleared n order (length c));
+      small = omega (arith, f .lent, length-replicate {A = ℕ} (length c) 0);
+    }
+
+module _ {n : ℕ} {t order c : List ℕ} (f : Fits n t order c) where
+  ord : Order n (flags n order)
+  ord = fit-order-is n order (f .order-fits)
+
+  module _ {used root : ℕ} {d : List ℕ} (a : Draw n t order 0 0 (replicate (length c) 0) 0 (grown used root) d) where
+    table : tableOf n d root ≡ t
+    unfolding restrict
+    table = a .is .table
+
+    whole : Diagram n order d used root
+    whole =
+        record {
+          cells = a .grows .is-sound;
+          root-is = a .is .node;
+          reached = all-reached d used root .0
+              (drawn-all-reached (a .grows .is-sound) ord root (a .is .node)
+              (λ k h. subst (λ (u : List ℕ). In (tableOf n d (k + 2)) (nodesOf (flags n order) u)) (sym table) (a .grows .within k (omega arith) h)));
+        }
+
+    count : used ≡ size (flags n order) t
+    count = used-size whole ord ∙ ap (size (flags n order)) table
+
+    root-is : (k : ℕ) → used ≡ k → root ≡ rootBy k t
+    root-is zero e =
+        let m : root < 2 = omega (arith, a .is .node) in
+        sym (walk-end d root 0 m) ∙ sym (table-row n d root 0 (pow-pos n)) ∙ ap (λ (u : List ℕ). getD u 0 0) table
+    root-is (suc k) e =
+        root-last (smaller (a .grows .is-sound)) root (a .is .node) (omega arith) (all-reached d used root .1 (whole .reached)) ∙ ap (λ (x : ℕ). x + 1) e
+        ∙ sym (rw (ne-eqb (suc k) 0 (omega arith)))
+
+    pub filled : Filled n t order c used root d
+    filled =
+        let e = root-is (size (flags n order) t) count in
+        record {
+          count = count;
+          root-is = e;
+          fits = omega (arith, count, a .grows .is-sound .fits, lent);
+          draws = record {
+            lent = lent;
+            is-diagram = subst (λ (x : ℕ). diagram n order d (size (flags n order) t) x ≡ true) e
+                (subst (λ (x : ℕ). diagram n order d x root ≡ true) count (view-diagram n order d used root whole));
+            table = subst (λ (x : ℕ). tableOf n d x ≡ t) e table;
+          };
+        }
+      where
+        lent : length d ≡ length c
+        lent = a .grows .lent ∙ length-replicate (length c) 0
+
+  -- one node more than there is room for
+  module _ {used : ℕ} {d : List ℕ} (a : Draw n t order 0 0 (replicate (length c) 0) 0 (record { used = used; found = Full }) d) where
+    tables : List (List ℕ)
+    tables = map (λ (k : ℕ). tableOf n d (k + 2)) (below used)
+
+    tables-once : Once tables
+    unfolding tables
+    tables-once =
+        once-map (λ (k : ℕ). tableOf n d (k + 2)) (below used)
+        (λ j k hj hk e.
+        let q : j + 2 ≡ k + 2 =
+        canonical (a .grows .is-sound) ord (j + 2) (k + 2) (omega (arith, below-in hj)) (omega (arith, below-in hk)) e in
+        omega arith)
+        (once-from 0 used)
+
+    missing-new : In (a .is .missing) tables → ⊥
+    unfolding tables
+    missing-new m =
+        let (k, h, e) = map-in (λ (k : ℕ). tableOf n d (k + 2)) (below used) m in
+        a .is .absent k (below-in h) e
+
+    called : Within (a .is .missing ∷ tables) (nodesOf (flags n order) t)
+    unfolding tables
+    called u m =
+        ⊎-elim
+        (λ e. cast e (a .is .called))
+        (λ q.
+        let (k, h, e) = map-in (λ (k : ℕ). tableOf n d (k + 2)) (below used) q in
+        cast (sym e) (a .grows .within k (omega arith) (below-in h)))
+        (cases-cons m)
+
+    pub exceeds : room c < size (flags n order) t
+    unfolding tables
+    exceeds =
+        omega (
+          arith,
+          once-length (a .is .missing ∷ tables) (nodesOf (flags n order) t) (missing-new, tables-once) called,
+          length-map (below used) (λ (k : ℕ). tableOf n d (k + 2)),
+          length-from 0 used,
+          a .is .full,
+          a .grows .lent,
+          length-replicate {A = ℕ} (length c) 0,
+        )

@@ -1,0 +1,64 @@
+-- The cells that a diagram is drawn in aside: the first of a local array, as many as were lent.
+-- Assumes nothing.
+use mathlib.Core.Path.{_≡_, refl, sym, ap, subst, _∙_}
+use mathlib.Core.List.{List, _∷_, _++_}
+use Prim.Native.Nat.{ℕ, zero, suc, _-_, _≤_, _<_}
+use native.Mathlib.Nat.{sub-zero, le-of-suc-le-suc, not-suc-le-zero}
+use native.Mathlib.Omega.{arith}
+use lib.ListN.{length, take, replicate, length-append, length-replicate}
+use lib.Seq.{take-at}
+use Rattle.rule.specs.Level.{size, nodesOf}
+use Rattle.rule.specs.Order.{flags}
+use Rattle.rule.specs.Cells.{mostCells, room}
+use Rattle.theory.proofs.Restrict.{restrict}
+use Rattle.unique.specs.declared.Grown.{Grown}
+use Rattle.unique.specs.declared.Found.{Found}
+use Rattle.unique.specs.declared.Found.the-variants.{At, Full}
+use Rattle.unique.specs.Node.{grown}
+use Rattle.unique.specs.Search.{FoundAs}
+use Rattle.building.specs.Draw.{Drawing, Draw}
+use Rattle.building.specs.Fill.{Fits, Filled}
+use Rattle.building.proofs.Filled.{start, filled, exceeds}
+
+abbrev pub zeros : ℕ → List ℕ
+zeros k = replicate k 0
+
+take-replicate : (k m v : ℕ) → k ≤ m → take k (replicate m v) ≡ replicate k v
+take-replicate zero m v h = refl
+take-replicate (suc k) zero v h = absurd (not-suc-le-zero h)
+take-replicate (suc k) (suc m) v h = ap (λ (l : List ℕ). v ∷ l) (take-replicate k m v (le-of-suc-le-suc h))
+
+held-is : (k : ℕ) → k ≤ mostCells → take (k - 0) (zeros mostCells) ≡ zeros k
+held-is k h = ap (λ (i : ℕ). take i (zeros mostCells)) (sub-zero k) ∙ take-replicate k mostCells 0 h
+
+module _ {n : ℕ} {t order c : List ℕ} (f : Fits n t order c) where
+  is-held : take (length c - 0) (zeros mostCells) ≡ zeros (length c)
+  is-held = held-is (length c) (f .lent)
+
+  pub begin : Drawing n t order 0 0 (take (length c - 0) (zeros mostCells)) 0
+  begin = subst (λ (z : List ℕ). Drawing n t order 0 0 z 0) (sym is-held) (start f)
+
+  module _ {r : Grown} {d : List ℕ} (a : Draw n t order 0 0 (take (length c - 0) (zeros mostCells)) 0 r d) where
+    pub drawn-length : length d ≡ length c
+    drawn-length = a .grows .lent ∙ ap length is-held ∙ length-replicate (length c) 0
+
+    -- the answer in hand
+    known : (x : Found) → r .found ≡ x → Draw n t order 0 0 (zeros (length c)) 0 (record { used = r .used; found = x }) d
+    known x e =
+        subst (λ (z : List ℕ). Draw n t order 0 0 z 0 (record { used = r .used; found = x }) d) is-held
+        (record {
+          grows = a .grows;
+          is = subst (λ (y : Found). FoundAs y n order (nodesOf (flags n order) t) 0 (restrict (take 0 (flags n order)) 0 t) d (r .used)) e (a .is);
+        })
+
+    pub within-held : (rest : List ℕ) → length c ≤ length (d ++ rest)
+    within-held rest = omega (arith, length-append d rest, drawn-length)
+
+    pub end-full : r .found ≡ Full → room c < size (flags n order) t
+    end-full e = exceeds f (known Full e)
+
+    pub end-found : {root : ℕ} (rest x : List ℕ) → r .found ≡ At root → x ≡ take (length c - 0) (d ++ rest) → Filled n t order c (r .used) root x
+    end-found {root} rest x e q =
+        subst (λ (z : List ℕ). Filled n t order c (r .used) root z)
+        (sym (q ∙ ap (λ (i : ℕ). take i (d ++ rest)) (sub-zero (length c)) ∙ take-at d rest (length c) drawn-length))
+        (filled f (known (At root) e))

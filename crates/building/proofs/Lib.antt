@@ -1,0 +1,4 @@
+pub mod Branches
+pub mod Filled
+pub mod Held
+pub mod Answer

@@ -1,0 +1,31 @@
+-- `building::call::fill` meets its contract: the drawing is the one of Held.antt, and it is copied where there is room.
+-- Assumes nothing.
+use mathlib.Core.Path.{refl}
+use borrow.Author.Needs.{needs}
+use Rattle.building.proofs.Held.{begin, within-held, end-full, end-found}
+use Rattle.building.proofs.call.fill.Statement.{statement}
+use Rattle.building.proofs.call.fill.Tie as tie
+
+returns : tie.Need-returns
+returns c = record { exceeds = end-full (c .before .before .before .before .before .before .before .pre) (c .before .before .before .draw .ensures) (c .enum-told .given .1); kept = refl }
+
+returns-2 : tie.Need-returns-2
+returns-2 c = end-found (c .before .before .before .before .before .before .before .before .before .before .before .before .before .before .pre) (c .before .before .before .before .before .before .before .before .before .before .draw .ensures) _ _ (c .before .before .before .before .before .before .before .found .given .1) (c .before .before .copy .ensures)
+
+pub fill-spec : {M : Type 1} → statement M
+fill-spec =
+    tie.close
+    (tie.spec
+    (λ c. search needs)
+    (λ c. search needs)
+    (λ c. search needs)
+    (λ c κs. begin (c .before .before .before .pre))
+    (λ c. search needs)
+    (λ c. search needs)
+    (λ c. search needs)
+    (λ c. search needs)
+    (λ c. within-held (c .before .before .before .before .before .before .before .before .before .pre) (c .before .before .before .before .before .draw .ensures) _)
+    (λ c κs. search needs)
+    returns
+    (λ c. search needs)
+    returns-2)

@@ -1,0 +1,84 @@
+-- `building::tree::draw` meets its contract: the measure is the number of flags that are left, and each step is one of Branches.antt.
+-- Assumes nothing.
+use mathlib.Core.Path.{_≡_, sym, ap, subst, _∙_}
+use Prim.Native.Nat.{ℕ, _-_, _<_}
+use native.Mathlib.Omega.{arith}
+use borrow.Author.Needs.{needs}
+use borrow.Fn.Kinds.{In}
+use borrow.Fn.PlainCycle.{Measures, is, falls, and}
+use lib.Pow.{pow-mono}
+use Rattle.theory.proofs.Cofactor.{row-lt}
+use Rattle.theory.proofs.Growth.{grows-none}
+use Rattle.building.proofs.Branches.{cells, leaf, flag-lt, first, second, third, no-room, within-room}
+use Rattle.building.proofs.tree.draw.Reads as draw
+use Rattle.building.proofs.tree.draw.Kinds as draw-kinds
+use Rattle.building.proofs.tree.+draw.Lts-draw as draw-lts
+use Rattle.bits.proofs.set_bit.Reads as set-bit-reads
+use Rattle.unique.proofs.make.Reads as make-reads
+use Rattle.building.proofs.tree.+draw.{statement}
+use Rattle.building.proofs.tree.+draw.Tie.{close}
+
+abbrev μ-draw : Measures 2 draw-kinds.ps ℕ
+μ-draw κs a = a .0 - a .1 .1 .1 .0
+
+abbrev draw-at : ℕ → In 2 draw-kinds.ps
+draw-at t = and 2 draw-kinds.ps (is 2 draw-kinds.ps μ-draw t) draw.Pre
+
+abbrev draw-below : ℕ → In 2 draw-kinds.ps
+draw-below t = and 2 draw-kinds.ps (falls 2 draw-kinds.ps _<_ μ-draw t) draw.Pre
+
+pub +draw-spec : {M : Type 1} → statement M
++draw-spec = close μ-draw λ t. draw-lts.spec (
+  set-bit-reads.Asked,
+  set-bit-reads.Learnt,
+  draw-below t,
+  draw.Post,
+  make-reads.Asked,
+  make-reads.Learnt,
+)
+    (draw-at t)
+    draw.Post
+    (λ c. let s = c .before .before .before .before in omega (arith, s .pre .1 .rows, s .pre .1 .row-fits))
+    (λ c. let s = c .before .before .before .before in omega (arith, row-lt _ (s .pre .1 .bits) (s .args .row)))
+    (λ c. leaf (c .before .before .before .before .pre .1) (c .before .if1 .taken))
+    (λ c. omega (arith, c .before .before .before .pre .1 .few))
+    (λ c.
+    let s = c .before .before .before .before in
+    omega (arith, flag-lt (s .pre .1) (c .before .if1 .left), s .pre .1 .few))
+    (λ c κs.
+    let s = c .before .before .before .before in (
+      omega (arith, s .pre .1 .row-fits, pow-mono (s .pre .1 .few)),
+      omega (arith, flag-lt (s .pre .1) (c .before .if1 .left), s .pre .1 .few),
+      omega arith,
+    ))
+    (λ c. search needs)
+    (λ c κs.
+    let s = c .before .before .before .before .before .before in
+    (omega (arith, s .pre .0, c .before .before .before .if1 .left), first (s .pre .1) (c .before .before .before .if1 .left) _ (c .before .set-bit .ensures)))
+    (λ c. search needs)
+    (λ c. search needs)
+    (λ c κs.
+    let s = c .before .before .before .before .before .before .before .before .before .before .before .before in (
+      omega (arith, s .pre .1 .row-fits, pow-mono (s .pre .1 .few)),
+      omega (arith, flag-lt (s .pre .1) (c .before .before .before .before .before .before .before .before .before .if1 .left), s .pre .1 .few),
+      omega arith,
+    ))
+    (λ c. search needs)
+    (λ c κs.
+    let s = c .before .before .before .before .before .before .before .before .before .before .before .before .before .before in (
+      omega (arith, s .pre .0, c .before .before .before .before .before .before .before .before .before .before .before .if1 .left),
+      second (s .pre .1) (c .before .before .before .before .before .before .before .before .before .before .before .if1 .left) _ _ (c .before .set-bit2 .ensures) (c .before .before .before .before .before .before .before .draw .ensures),
+    ))
+    (λ c. search needs)
+    (λ c. search needs)
+    (λ c κs. within-room (c .before .before .before .before .before .before .before .before .before .before .before .before .before .before .before .before .before .before .before .before .before .pre .1) (c .before .before .before .before .before .before .before .before .before .before .before .before .before .before .before .before .before .before .if1 .left) _ _ (c .before .before .before .before .before .before .before .before .before .before .before .before .before .before .draw .ensures) (c .before .before .before .before .before .before .draw2 .ensures))
+    (λ c. search needs)
+    (λ c.
+    no-room (c .before .before .before .before .before .before .before .before .before .before .before .pre .1) (c .before .before .before .before .before .before .before .before .if1 .left) _ (grows-none _ (cells (c .before .before .before .before .before .before .before .before .before .before .before .pre .1))) (c .enum-told .given .1) (c .before .before .before .before .draw .ensures))
+    (λ c. search needs)
+    (λ c.
+    no-room (c .before .before .before .before .before .before .before .before .before .before .before .before .before .before .before .before .before .before .before .pre .1) (c .before .before .before .before .before .before .before .before .before .before .before .before .before .before .before .before .if1 .left) _ (c .before .before .before .before .before .before .before .before .before .before .before .before .draw .ensures .grows) (c .enum-told2 .given .1) (c .before .before .before .before .draw2 .ensures))
+    (λ c. search needs)
+    (λ c.
+    third (c .before .before .before .before .before .before .before .before .before .before .before .before .before .before .before .before .before .before .before .before .before .before .before .before .pre .1) (c .before .before .before .before .before .before .before .before .before .before .before .before .before .before .before .before .before .before .before .before .before .if1 .left) _ _ (c .before .before .before .before .before .before .before .before .before .before .before .before .before .before .before .before .before .before .before .set-bit .ensures) (c .before .before .before .before .before .before .before .before .before .before .before .set-bit2 .ensures) (c .before .before .before .before .before .before .before .before .before .before .before .before .before .lower .given .1) (c .before .before .before .before .before .higher .given .1)
+    (c .before .before .before .before .before .before .before .before .before .before .before .before .before .before .before .before .before .draw .ensures) (c .before .before .before .before .before .before .before .before .before .draw2 .ensures) (c .before .before .make .ensures))

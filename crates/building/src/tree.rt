@@ -1,0 +1,48 @@
+use rule::Order;
+use unique::Found;
+use unique::Grown;
+ghost use Rattle.building.specs.Draw.{Drawing, Draw};
+
+// The node of the table's rule with the flags before level `at` fixed as in the row: its two branches, then the node that joins them.
+pub fn draw(
+    n: u8,
+    table: &[u8],
+    order: Order,
+    at: u8,
+    row: u16,
+    cells: &mut [u16],
+    used: u16,
+) -> Grown
+    requires { ⌜ Drawing n (now table) (order .places) at row (now cells) used ⌝ }
+    ensures { λ r. ⌜ Draw n (now (table .entry)) (order .places) at row (now (cells .entry)) used r (now (cells .exit)) ⌝ }
+{
+    if n <= at {
+        let answer = table[row as usize] as u16;
+        return Grown {
+            used,
+            found: Found::At(answer),
+        };
+    }
+    let flag = order.places[at as usize] as u16;
+    let no = bits::set_bit(row, flag, 0);
+    let first = draw(n, table, order, at + 1, no, cells, used);
+    let lower = first.found;
+    match lower {
+        Found::Full => Grown {
+            used: first.used,
+            found: Found::Full,
+        },
+        Found::At(low) => {
+            let yes = bits::set_bit(row, flag, 1);
+            let second = draw(n, table, order, at + 1, yes, cells, first.used);
+            let higher = second.found;
+            match higher {
+                Found::Full => Grown {
+                    used: second.used,
+                    found: Found::Full,
+                },
+                Found::At(high) => unique::make(cells, second.used, flag, low, high),
+            }
+        }
+    }
+}

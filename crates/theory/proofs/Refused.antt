@@ -1,0 +1,39 @@
+-- Rows of the refusal table that apply or pass, and the reply that follows.
+-- Assumes nothing.
+use mathlib.Core.Path.{_≡_, refl}
+use mathlib.Core.Bool.{Bool, true, false, _&&_}
+use mathlib.Core.List.{List, [], _∷_, _++_, map}
+use Prim.Native.Nat.{ℕ, zero, suc}
+use native.Mathlib.Omega.{arith}
+use borrow.Author.Tests.{ltb-true}
+use lib.Dec.{ltb}
+use Rattle.rule.specs.Refusals.{Row, refusal}
+use Rattle.rule.specs.Reply.{refused, reply}
+use Rattle.theory.proofs.Tests.{and-split}
+
+-- the number of each row is one of the table's, not 0
+abbrev pub numbered : List Row → Bool
+numbered [] = true
+numbered (row ∷ rows) = ltb 0 (row .1) && numbered rows
+
+-- one row before others
+pub row-passed : (b : Bool) (k : ℕ) (rows : List Row) → refusal ((b, suc k) ∷ rows) ≡ 0 → (b ≡ false) × (refusal rows ≡ 0)
+row-passed true k rows e = absurd (omega arith)
+row-passed false k rows e = (refl, e)
+
+-- a number that some rows give is given with more rows after them
+pub refused-more : (rows more : List Row) → (refusal rows ≡ 0 → ⊥) → refusal rows ≡ refusal (rows ++ more)
+refused-more [] more d = absurd (d refl)
+refused-more ((true, k) ∷ rows) more d = refl
+refused-more ((false, k) ∷ rows) more d = refused-more rows more d
+
+-- rows that give no number leave it to those after them
+pub passed-more : (rows more : List Row) → numbered rows ≡ true → refusal rows ≡ 0 → refusal more ≡ refusal (rows ++ more)
+passed-more [] more h e = refl
+passed-more ((true, k) ∷ rows) more h e = let p = ltb-true 0 k (and-split (ltb 0 k) (numbered rows) h .0) in absurd (omega arith)
+passed-more ((false, k) ∷ rows) more h e = passed-more rows more (and-split (ltb 0 k) (numbered rows) h .1) e
+
+-- the reply under a refusal
+pub refused-reply : (k : ℕ) (values : List ℕ) → (k ≡ 0 → ⊥) → refused k (map (λ v. 0) values) ≡ reply k values
+refused-reply zero values d = absurd (d refl)
+refused-reply (suc k) values d = refl

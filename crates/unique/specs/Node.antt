@@ -1,0 +1,36 @@
+-- What the unique table finds and adds.
+-- Assumes nothing.
+use mathlib.Core.Path.{_≡_}
+use mathlib.Core.List.{List}
+use Prim.Native.Nat.{ℕ, _+_, _≤_, _<_}
+use Rattle.rule.specs.Cells.{room, flagAt, lowAt, highAt}
+use Rattle.cells.specs.Record.{putRecord}
+use Rattle.unique.specs.declared.Grown.{Grown}
+use Rattle.unique.specs.declared.Found.the-variants.{At, Full}
+
+-- record k is these three
+pub record Is (c : List ℕ) (k flag low high : ℕ) : Type 0 where
+  pub flag-is : flagAt c k ≡ flag
+  pub low-is : lowAt c k ≡ low
+  pub high-is : highAt c k ≡ high
+
+-- none of the first n records is these three
+abbrev pub None : List ℕ → ℕ → ℕ → ℕ → ℕ → Type 0
+None c n flag low high = (k : ℕ) → k < n → Is c k flag low high → ⊥
+
+-- r is the first of the used records that is these three, or `used` where none is
+pub record Finds (c : List ℕ) (used flag low high r : ℕ) : Type 0 where
+  pub most : r ≤ used
+  pub before : None c r flag low high
+  pub there : r < used → Is c r flag low high
+
+abbrev pub grown : ℕ → ℕ → Grown
+grown used m = record { used = used; found = At m }
+
+-- the node of a flag and two children: the child where they are one; an old record; a new one where there is room; or no room
+pub data Makes (c : List ℕ) (used flag low high : ℕ) : Grown → List ℕ → Type 0 where
+  child : low ≡ high → Makes c used flag low high (grown used low) c
+  old : (k : ℕ) → k < used → Is c k flag low high → Makes c used flag low high (grown used (k + 2)) c
+  new : (low ≡ high → ⊥) → None c used flag low high → used < room c
+      → Makes c used flag low high (grown (used + 1) (used + 2)) (putRecord c used flag low high)
+  full : (low ≡ high → ⊥) → None c used flag low high → used ≡ room c → Makes c used flag low high (record { used = used; found = Full }) c
