@@ -1,0 +1,46 @@
+use crate::reach::all_reached;
+use crate::records::sound;
+use rule::Counted;
+use rule::Node;
+use rule::Order;
+ghost use mathlib.Core.Path.{_≡_};
+ghost use mathlib.Core.List.{[], _∷_};
+ghost use Rattle.rule.specs.Refusals.{refusal, flagCount, orderPlaces, cells as lentCells, records};
+ghost use Rattle.rule.specs.Answers.{countedReply};
+ghost use Rattle.rule.specs.Calls.{Check};
+
+// The refusal of lent cells with so many used records, 0 for none: 1, 4, 5, then 6.
+pub fn records_refusal(n: u8, order: Order, cells: &[u16], used: u16) -> u8
+    ensures { λ r. ⌜ r
+        ≡ refusal (flagCount n ∷ orderPlaces n (order .places) ∷ lentCells (now (cells .entry)) ∷ records n (order .places) (now (cells .entry)) used ∷ []) ⌝ }
+{
+    let refused = arguments::order_refusal(n, order);
+    if refused != 0 {
+        return refused;
+    }
+    if !cells::fit_cells(cells) {
+        return 5;
+    }
+    if !sound(n, order, cells, used) {
+        return 6;
+    }
+    0
+}
+
+// Check: the node count of a diagram, or why it is none: 1, 4, 5, 6, then 7.
+pub fn check(n: u8, order: Order, cells: &[u16], used: u16, root: Node) -> Counted
+    ensures { λ r. ⌜ Check n (order .places) (now (cells .entry)) used (root .number) (countedReply r) ⌝ }
+{
+    let refused = records_refusal(n, order, cells, used);
+    if refused != 0 {
+        return Counted::Refused(refused);
+    }
+    let node = root.number;
+    if used + 1 < node {
+        return Counted::Refused(7);
+    }
+    if !all_reached(cells, used, node) {
+        return Counted::Refused(6);
+    }
+    Counted::Nodes(used)
+}

@@ -1,0 +1,59 @@
+use crate::order::asks_later;
+use rule::Order;
+ghost use mathlib.Core.Path.{_≡_};
+ghost use Prim.Native.Nat.{_≤_, _<_};
+ghost use Rattle.rule.specs.Order.{flags};
+ghost use Rattle.rule.specs.Cells.{room};
+ghost use Rattle.checking.specs.Record.{isNew, fitRecord};
+
+// Whether record k equals none of the records before it.
+pub fn is_new(cells: &[u16], k: u16) -> bool
+    requires { ⌜ k < room (now cells) ⌝ }
+    ensures { λ r. ⌜ r ≡ isNew (now (cells .entry)) k ⌝ }
+{
+    let flag = cells::flag_at(cells, k);
+    let low = cells::low_at(cells, k);
+    let high = cells::high_at(cells, k);
+    let mut j: u16 = 0;
+    while j < k {
+        if cells::flag_at(cells, j) == flag {
+            if cells::low_at(cells, j) == low {
+                if cells::high_at(cells, j) == high {
+                    return false;
+                }
+            }
+        }
+        j += 1;
+    }
+    true
+}
+
+// Whether record k is sound by itself and beside the records before it.
+pub fn fit_record(n: u8, order: Order, cells: &[u16], k: u16) -> bool
+    requires { ⌜ (n ≤ 10) × (k < room (now cells)) ⌝ }
+    ensures { λ r. ⌜ r ≡ fitRecord n (flags n (order .places)) (now (cells .entry)) k ⌝ }
+{
+    let flag = cells::flag_at(cells, k);
+    let low = cells::low_at(cells, k);
+    let high = cells::high_at(cells, k);
+    // in 32 bits, which k + 2 always fits
+    let node = k as u32 + 2;
+    if n as u16 <= flag {
+        return false;
+    }
+    if low == high {
+        return false;
+    }
+    if node <= low as u32 {
+        return false;
+    }
+    if node <= high as u32 {
+        return false;
+    }
+    if asks_later(order, n, cells, flag, low) {
+        if asks_later(order, n, cells, flag, high) {
+            return is_new(cells, k);
+        }
+    }
+    false
+}

@@ -1,0 +1,49 @@
+use crate::rows::fill;
+use crate::steps::descend;
+use rule::Done;
+use rule::Node;
+use rule::Order;
+use rule::Said;
+ghost use mathlib.Core.Path.{_≡_};
+ghost use Rattle.rule.specs.Answers.{doneReply, saidReply};
+ghost use Rattle.walking.specs.Call.{Walks, Tabulates};
+
+// Walk: the answer of a node in a row, or why there is none: 1, 4, 5, 6, 7, then 9.
+pub fn walk(n: u8, order: Order, cells: &[u16], used: u16, node: Node, row: u16) -> Said
+    ensures { λ r. ⌜ Walks n (order .places) (now (cells .entry)) used (node .number) row (saidReply r) ⌝ }
+{
+    let refused = checking::records_refusal(n, order, cells, used);
+    if refused != 0 {
+        return Said::Refused(refused);
+    }
+    let from = node.number;
+    if used + 1 < from {
+        return Said::Refused(7);
+    }
+    if arguments::row_count(n) <= row as usize {
+        return Said::Refused(9);
+    }
+    Said::Answer(descend(cells, used, from, row) as u8)
+}
+
+// Tabulate: the table of a node in lent bytes, or why there is none: 1, 2, 4, 5, 6, then 7.
+pub fn tabulate(n: u8, order: Order, cells: &[u16], used: u16, node: Node, bytes: &mut [u8]) -> Done
+    ensures { λ r. ⌜ Tabulates n (order .places) (now (cells .entry)) used (node .number) (now (bytes .entry)) (doneReply r) (now (bytes .exit)) ⌝ }
+{
+    if 10 < n {
+        return Done::Refused(1);
+    }
+    if bytes.len() != arguments::row_count(n) {
+        return Done::Refused(2);
+    }
+    let refused = checking::records_refusal(n, order, cells, used);
+    if refused != 0 {
+        return Done::Refused(refused);
+    }
+    let from = node.number;
+    if used + 1 < from {
+        return Done::Refused(7);
+    }
+    fill(cells, used, from, bytes);
+    Done::Accepted
+}
