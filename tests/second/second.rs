@@ -407,7 +407,7 @@ fn vectors(directory: &str) -> std::io::Result<()> {
     }
     let mut case = |table: &[usize], order: &[usize]| {
         let Drawing { nodes, flags, .. } = draw(table, order);
-        build_in += &format!("{} {}\n", digits(table), digits(order));
+        build_in += &format!("d {} {}\n", digits(table), digits(order));
         build_out += &format!("nodes {nodes} {}\n", phrase("flags", &flags));
     };
     for table in tables.iter().filter(|table| table.len() <= 16).take(60) {

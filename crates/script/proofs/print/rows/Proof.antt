@@ -1,0 +1,16 @@
+-- `script::print::rows` meets its contract: it counts up to the length.
+-- Assumes nothing.
+use Prim.Native.Nat.{_+_, _-_, _≤_, _<_}
+use borrow.Author.Needs.{needs}
+use lib.ListN.{length}
+use Rattle.script.proofs.print.rows.Statement.{statement}
+use Rattle.script.proofs.print.rows.Tie as tie
+
+abbrev Inv-loop : tie.InvT-loop
+Inv-loop table i₀ i = (i ≤ length table)
+
+abbrev μ-loop : tie.MeasureT-loop
+μ-loop table i₀ i = length table - i
+
+pub rows-spec : {M : Type 1} → statement M
+rows-spec = tie.close (tie.spec Inv-loop μ-loop (λ c. search needs) (λ c. search needs) (λ c κs. search needs) (λ c κs. search needs) (λ c. search needs) (λ c. search needs) (λ c. search needs) (λ c. search needs))

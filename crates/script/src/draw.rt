@@ -1,0 +1,154 @@
+// A table drawn under an order, and held against what check, tabulate and walk say of it.
+use crate::print;
+use crate::read::digits;
+use crate::read::order;
+use rule::Counted;
+use rule::Done;
+use rule::Drawn;
+use rule::Node;
+use rule::Order;
+use rule::Said;
+
+// The flags of a table of so many rows, 11 where it has none.
+fn flag_count(rows: usize) -> u8 {
+    let mut n: u8 = 0;
+    while n < 11 {
+        if (1usize << n) == rows {
+            return n;
+        }
+        n += 1;
+    }
+    n
+}
+
+// How many used records ask a flag.
+fn asking(cells: &[u16], used: u16, flag: u16) -> u16 {
+    let mut count: u16 = 0;
+    let mut k: u16 = 0;
+    while k < used {
+        if (k as usize) < cells::room(cells) {
+            if cells::flag_at(cells, k) == flag {
+                if count < 65535 {
+                    count += 1;
+                }
+            }
+        }
+        k += 1;
+    }
+    count
+}
+
+// Whether two lists of rows are equal.
+fn same_rows(a: &[u8], b: &[u8]) -> bool {
+    if a.len() != b.len() {
+        return false;
+    }
+    let mut i = 0;
+    while i < a.len() {
+        if a[i] != b[i] {
+            return false;
+        }
+        i += 1;
+    }
+    true
+}
+
+// Whether the diagram has so many nodes and tabulates to the table, by way of lent bytes.
+fn agrees(
+    n: u8,
+    table: &[u8],
+    order: Order,
+    cells: &[u16],
+    used: u16,
+    root: Node,
+    bytes: &mut [u8],
+) -> bool {
+    let counted = checking::check(n, order, cells, used, root);
+    let Counted::Nodes(nodes) = counted else {
+        return false;
+    };
+    if nodes != used {
+        return false;
+    }
+    let done = walking::tabulate(n, order, cells, used, root, bytes);
+    let Done::Accepted = done else {
+        return false;
+    };
+    same_rows(bytes, table)
+}
+
+// Whether each row's walk answers what the table has, and the row after the last is refused.
+fn walks(n: u8, table: &[u8], order: Order, cells: &[u16], used: u16, root: Node) -> bool {
+    let mut row: u16 = 0;
+    while row < 1024 {
+        let said = walking::walk(n, order, cells, used, root, row);
+        let at = row as usize;
+        let mut expected: u8 = 9;
+        if at < table.len() {
+            expected = table[at];
+        }
+        let mut found: u8 = 9;
+        match said {
+            Said::Answer(a) => {
+                found = a;
+            }
+            Said::Refused(k) => {
+                found = k;
+            }
+        }
+        if found != expected {
+            return false;
+        }
+        if table.len() <= at {
+            return true;
+        }
+        row += 1;
+    }
+    true
+}
+
+fn flag_counts(n: u8, cells: &[u16], used: u16) {
+    print::text(b" flags");
+    let mut v: u8 = 0;
+    while v < n {
+        print::number(b"", asking(cells, used, v as u16));
+        v += 1;
+    }
+}
+
+// The table drawn in lent cells, with lent bytes of its length to tabulate it in.
+fn drawn(n: u8, table: &[u8], order: Order, cells: &mut [u16], bytes: &mut [u8]) {
+    match building::build(n, table, order, cells) {
+        Drawn::Refused(k) => print::refused(k),
+        Drawn::Diagram { nodes, root } => {
+            if !agrees(n, table, order, cells, nodes, root, bytes) {
+                print::text(b"disagrees ");
+            }
+            if !walks(n, table, order, cells, nodes, root) {
+                print::text(b"walks otherwise ");
+            }
+            print::number(b"nodes", nodes);
+            flag_counts(n, cells, nodes);
+        }
+    }
+}
+
+// d TABLE ORDER
+pub fn draw(text: &[u8], at: usize) {
+    let mut table = [0u8; 2048];
+    let rows = digits(text, at, &mut table);
+    let order = order(text, rows.next);
+    let count = rows.value as usize;
+    if 2048 < count {
+        return;
+    }
+    let mut cells = [7u16; 3072];
+    let mut bytes = [7u8; 2048];
+    drawn(
+        flag_count(count),
+        &table[0..count],
+        order,
+        &mut cells,
+        &mut bytes[0..count],
+    );
+}

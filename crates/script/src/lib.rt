@@ -1,0 +1,15 @@
+// A small language for test programs over single diagrams: a line a call, and a line of output for each. Words stand one blank apart.
+//
+//     d TABLE ORDER                        draw the table, check, tabulate and walk it: its nodes, and those asking each flag
+//     b N CELLS TABLE ORDER                build into so many lent cells, with 7 in each
+//     c N ORDER USED ROOT CELL CELL ..     check
+//     w N ORDER USED NODE ROW CELL ..      walk
+//     t N ORDER USED NODE BYTES CELL ..    tabulate into so many lent bytes
+//
+// A table is a digit for each row, row 0 first. An order is a digit for each flag, and what is not written of its ten places is 0.
+mod draw;
+mod one;
+mod print;
+mod read;
+
+pub use read::run;

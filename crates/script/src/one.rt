@@ -1,0 +1,148 @@
+// One call a line.
+use crate::print;
+use crate::read::cells;
+use crate::read::digits;
+use crate::read::number;
+use crate::read::order;
+use rule::Counted;
+use rule::Done;
+use rule::Drawn;
+use rule::Node;
+use rule::Order;
+use rule::Said;
+
+// The low byte of a number that was read: a flag count.
+fn flags(value: u16) -> u8 {
+    (value % 256) as u8
+}
+
+// Whether each cell still has the 7 that it was lent with.
+fn as_lent(cells: &[u16; 4096]) -> bool {
+    let mut i = 0;
+    while i < 4096 {
+        if cells[i] != 7 {
+            return false;
+        }
+        i += 1;
+    }
+    true
+}
+
+// b N CELLS TABLE ORDER
+pub fn build(text: &[u8], at: usize) {
+    let n = number(text, at);
+    let lent = number(text, n.next);
+    let mut table = [0u8; 2048];
+    let rows = digits(text, lent.next, &mut table);
+    let order = order(text, rows.next);
+    let mut cells = [7u16; 4096];
+    let count = rows.value as usize;
+    let length = lent.value as usize;
+    if 2048 < count {
+        return;
+    }
+    if 4096 < length {
+        return;
+    }
+    let drawn = building::build(
+        flags(n.value),
+        &table[0..count],
+        order,
+        &mut cells[0..length],
+    );
+    match drawn {
+        Drawn::Diagram { nodes, root } => {
+            print::number(b"nodes", nodes);
+            print::number(b" root", root.number);
+        }
+        Drawn::Refused(k) => {
+            print::refused(k);
+            if !as_lent(&cells) {
+                print::text(b" altered");
+            }
+        }
+    }
+}
+
+// c N ORDER USED ROOT CELL CELL ..
+pub fn check(text: &[u8], at: usize) {
+    let n = number(text, at);
+    let places = number(text, n.next);
+    let order = order(text, n.next);
+    let used = number(text, places.next);
+    let root = number(text, used.next);
+    let mut lent = [0u16; 4096];
+    let length = cells(text, root.next, &mut lent);
+    let counted = checking::check(
+        flags(n.value),
+        order,
+        &lent[0..length],
+        used.value,
+        Node { number: root.value },
+    );
+    match counted {
+        Counted::Nodes(nodes) => print::number(b"nodes", nodes),
+        Counted::Refused(k) => print::refused(k),
+    }
+}
+
+// w N ORDER USED NODE ROW CELL CELL ..
+pub fn walk(text: &[u8], at: usize) {
+    let n = number(text, at);
+    let places = number(text, n.next);
+    let order = order(text, n.next);
+    let used = number(text, places.next);
+    let node = number(text, used.next);
+    let row = number(text, node.next);
+    let mut lent = [0u16; 4096];
+    let length = cells(text, row.next, &mut lent);
+    let said = walking::walk(
+        flags(n.value),
+        order,
+        &lent[0..length],
+        used.value,
+        Node { number: node.value },
+        row.value,
+    );
+    match said {
+        Said::Answer(a) => print::number(b"answer", a as u16),
+        Said::Refused(k) => print::refused(k),
+    }
+}
+
+// t N ORDER USED NODE BYTES CELL CELL ..
+pub fn tabulate(text: &[u8], at: usize) {
+    let n = number(text, at);
+    let places = number(text, n.next);
+    let order = order(text, n.next);
+    let used = number(text, places.next);
+    let node = number(text, used.next);
+    let bytes = number(text, node.next);
+    let mut lent = [0u16; 4096];
+    let length = cells(text, bytes.next, &mut lent);
+    let mut rows = [7u8; 2048];
+    let count = bytes.value as usize;
+    if 2048 < count {
+        return;
+    }
+    table(
+        flags(n.value),
+        order,
+        &lent[0..length],
+        used.value,
+        node.value,
+        &mut rows[0..count],
+    );
+}
+
+// The answer of tabulate, and the lent bytes after it.
+fn table(n: u8, order: Order, cells: &[u16], used: u16, node: u16, bytes: &mut [u8]) {
+    match walking::tabulate(n, order, cells, used, Node { number: node }, bytes) {
+        Done::Accepted => print::text(b"rows "),
+        Done::Refused(k) => {
+            print::refused(k);
+            print::text(b" ");
+        }
+    }
+    print::rows(bytes);
+}

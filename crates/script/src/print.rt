@@ -1,0 +1,42 @@
+use libc::STDOUT_FILENO;
+ghost use mathlib.Core.Path.{_≡_};
+
+// A byte as a number.
+pub fn wide(byte: u8) -> u64
+    ensures { λ r. ⌜ r ≡ byte ⌝ }
+{
+    byte as u64
+}
+
+// A word, a blank and a number.
+pub fn number(word: &[u8], value: u16) {
+    io::write_all(STDOUT_FILENO, word);
+    io::write_all(STDOUT_FILENO, b" ");
+    io::print_decimal(STDOUT_FILENO, value as u64);
+}
+
+pub fn refused(number: u8) {
+    io::write_all(STDOUT_FILENO, b"refused ");
+    io::print_decimal(STDOUT_FILENO, number as u64);
+}
+
+pub fn line_end() {
+    io::write_all(STDOUT_FILENO, b"\n");
+}
+
+// The rows of a table, a digit each.
+pub fn rows(table: &[u8]) {
+    let mut i = 0;
+    while i < table.len() {
+        io::print_decimal(STDOUT_FILENO, wide(table[i]));
+        i += 1;
+    }
+}
+
+pub fn unknown() {
+    io::write_all(STDOUT_FILENO, b"unknown");
+}
+
+pub fn text(words: &[u8]) {
+    io::write_all(STDOUT_FILENO, words);
+}

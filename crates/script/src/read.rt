@@ -1,0 +1,146 @@
+use crate::draw::draw;
+use crate::one;
+use crate::print;
+use libc::STDIN_FILENO;
+use rule::Order;
+ghost use Prim.Native.Nat.{_≤_};
+ghost use lib.ListN.{length};
+
+// A number that was read, and the place behind it and the blank after it.
+pub struct Word {
+    pub value: u16,
+    pub next: usize,
+}
+
+// The number at a place: its digits up to a blank or the end.
+pub fn number(text: &[u8], at: usize) -> Word {
+    let mut value: u64 = 0;
+    let mut i = at;
+    while i < text.len() {
+        let byte = text[i];
+        if byte < 48 {
+            return Word {
+                value: (value % 65536) as u16,
+                next: i + 1,
+            };
+        }
+        value = (value * 10 + (print::wide(byte) - 48) % 10) % 65536;
+        i += 1;
+    }
+    Word {
+        value: (value % 65536) as u16,
+        next: i,
+    }
+}
+
+// One more, up to the largest number.
+fn after(count: u16) -> u16
+    ensures { λ r. ⌜ r ≤ 65535 ⌝ }
+{
+    if count < 65535 { count + 1 } else { count }
+}
+
+// Writes a byte, where there is a place for it.
+fn put(out: &mut [u8], place: usize, byte: u8) {
+    if place < out.len() {
+        out[place] = byte;
+    }
+}
+
+// The digits at a place, up to a blank or the end, one to a byte of `out`: how many there are.
+pub fn digits(text: &[u8], at: usize, out: &mut [u8]) -> Word {
+    let mut count: u16 = 0;
+    let mut i = at;
+    while i < text.len() {
+        let byte = text[i];
+        if byte < 48 {
+            return Word {
+                value: count,
+                next: i + 1,
+            };
+        }
+        put(out, count as usize, byte - 48);
+        count = after(count);
+        i += 1;
+    }
+    Word {
+        value: count,
+        next: i,
+    }
+}
+
+// The order at a place.
+pub fn order(text: &[u8], at: usize) -> Order {
+    let mut places = [0u8; 10];
+    digits(text, at, &mut places);
+    Order { places }
+}
+
+// The numbers from a place on, one to a cell: how many there are.
+pub fn cells(text: &[u8], at: usize, out: &mut [u16]) -> usize
+    ensures { λ r. ⌜ r ≤ length (now (out .exit)) ⌝ }
+{
+    let mut i = at;
+    let mut count = 0;
+    while i < text.len() {
+        if out.len() <= count {
+            return count;
+        }
+        let word = number(text, i);
+        out[count] = word.value;
+        count += 1;
+        if word.next <= i {
+            return count;
+        }
+        i = word.next;
+    }
+    count
+}
+
+// Where the line at a place ends: at its line end, or at the end of the text.
+fn line_end(text: &[u8], at: usize) -> usize
+    requires { ⌜ at ≤ length (now text) ⌝ }
+    ensures { λ r. ⌜ (at ≤ r) × (r ≤ length (now (text .entry))) ⌝ }
+{
+    let mut i = at;
+    while i < text.len() {
+        if text[i] == b'\n' {
+            return i;
+        }
+        i += 1;
+    }
+    i
+}
+
+// One line: its call, and a line of output.
+fn line(text: &[u8]) {
+    if text.len() == 0 {
+        return;
+    }
+    let command = text[0];
+    match command {
+        b'd' => draw(text, 2),
+        b'b' => one::build(text, 2),
+        b'c' => one::check(text, 2),
+        b'w' => one::walk(text, 2),
+        b't' => one::tabulate(text, 2),
+        _ => print::unknown(),
+    }
+    print::line_end();
+}
+
+fn lines(text: &[u8]) {
+    let mut at = 0;
+    while at < text.len() {
+        let end = line_end(text, at);
+        line(&text[at..end]);
+        at = end + 1;
+    }
+}
+
+// Every line of standard input.
+pub fn run() {
+    let mut buffer = io::large_buffer();
+    let n = io::read_full(STDIN_FILENO, &mut buffer);
+    lines(&buffer[..n]);
+}
