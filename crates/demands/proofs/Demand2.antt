@@ -1,0 +1,23 @@
+-- Demand 2, whole.
+-- Assumes nothing.
+use Rattle.rule.specs.Demands.{Demand2}
+use Rattle.demands.proofs.Stands.{built, packs, checked}
+use Rattle.demands.proofs.Reader.{read}
+use Rattle.demands.proofs.Canonical.{canonical, root-last}
+use Rattle.demands.proofs.Counts.{counts}
+use Rattle.demands.proofs.Exists.{exists}
+use Rattle.demands.proofs.Needs.{needs}
+
+pub demand2 : Demand2
+demand2 =
+    record {
+      built = built;
+      packs = packs;
+      checked = checked;
+      read = read;
+      canonical = canonical;
+      root-last = root-last;
+      counts = counts;
+      exists = exists;
+      needs = needs;
+    }

@@ -1,0 +1,87 @@
+-- Sound cells that keep the older nodes and hold a rule have, besides the older records, one for each node of the rule's diagram that was lacking.
+-- Assumes nothing.
+use mathlib.Core.Path.{_≡_, sym, ap, _∙_, subst}
+use mathlib.Core.Logic.{inl, inr}
+use mathlib.Core.Bool.{Bool, true, not, true≢false}
+use mathlib.Core.List.{List, map}
+use Prim.Native.Nat.{ℕ, _+_, _-_, _≤_}
+use native.Mathlib.Decide.{decLt}
+use native.Mathlib.Omega.{arith}
+use lib.ListN.{length-map}
+use Rattle.rule.specs.Bits.{from, below}
+use Rattle.rule.specs.Tests.{keep, among}
+use Rattle.rule.specs.Level.{nodesOf}
+use Rattle.rule.specs.Order.{flags}
+use Rattle.rule.specs.Cells.{sound}
+use Rattle.rule.specs.Diagram.{tableOf}
+use Rattle.rule.specs.Results.{recordTables, lacking, needed}
+use Rattle.rule.specs.Demands.{Fit}
+use Rattle.theory.proofs.Member.{In, cast, in-map, map-in}
+use Rattle.theory.proofs.Bits.{length-from, below-in, in-below, in-from}
+use Rattle.theory.proofs.Tests.{among?, keep-in}
+use Rattle.theory.proofs.Perm.{Once, once-length, once-keep, once-from, once-map, perm-once, perm-of-length}
+use Rattle.theory.proofs.Sets.{Order}
+use Rattle.theory.proofs.Orders.{fit-order-is}
+use Rattle.theory.proofs.Sound.{Sound, sound-view}
+use Rattle.theory.proofs.Canonical.{canonical}
+use Rattle.theory.proofs.Counting.{node-record, record-node}
+use Rattle.demands.proofs.Counts.{drawn-diagram, counts}
+use Rattle.demands.proofs.Exists.{exists}
+
+-- no two records have one table
+tables-once : {n used : ℕ} {order c : List ℕ} → Sound n order c used → Order n (flags n order) → Once (recordTables n c used)
+tables-once {n} {used} {order} {c} s o =
+    once-map (λ k. tableOf n c (k + 2)) (below used)
+    (λ j k mj mk e.
+    let q : j + 2 ≡ k + 2 = canonical s o (j + 2) (k + 2) (omega (arith, below-in mj)) (omega (arith, below-in mk)) e in
+    omega arith)
+    (once-from 0 used)
+
+-- no node of a table's diagram is counted twice: in a diagram of it each is the table of one record
+nodes-once : (n : ℕ) (order t : List ℕ) → Fit n order t → Once (nodesOf (flags n order) t)
+nodes-once n order t f =
+    let (c, used, root, x) = exists n order t f in
+    let d = drawn-diagram x in
+    let o = fit-order-is n order (f .order-fits) in
+    let once = tables-once (d .cells) o in
+    perm-once
+    (perm-of-length (recordTables n c used) (nodesOf (flags n order) t) once
+    (λ u m.
+    let (k, i, e) = map-in (λ k. tableOf n c (k + 2)) (below used) m in
+    subst (λ (z : List ℕ). In u (nodesOf (flags n order) z)) (x .table)
+    (cast (sym e) (record-node (d .cells) o k root (below-in i) (d .root-is) (d .reached k (below-in i)))))
+    (omega (arith, counts n order t f c used root x, length-map (below used) (λ k. tableOf n c (k + 2)), length-from 0 used)))
+    once
+
+pub needs : (n : ℕ) (order t : List ℕ) → Fit n order t → (c d : List ℕ) (used more m : ℕ) → sound n order c used ≡ true → sound n order d more ≡ true
+    → used ≤ more → ((k : ℕ) → k ≤ used + 1 → tableOf n d k ≡ tableOf n c k) → m ≤ more + 1 → tableOf n d m ≡ t
+    → used + needed n order c used t ≤ more
+unfolding lacking
+needs n order t f c d used more m sc sd le kept hm e =
+    omega (
+      arith,
+      once-length (lacking n order c used t) added (once-keep lacks (nodesOf (flags n order) t) (nodes-once n order t f)) within,
+      length-map (from used (more - used)) (λ k. tableOf n d (k + 2)),
+      length-from used (more - used),
+    )
+  where
+    lacks : List ℕ → Bool
+    lacks u = not (among u (recordTables n c used))
+
+    added : List (List ℕ)
+    added = map (λ k. tableOf n d (k + 2)) (from used (more - used))
+
+    within : (u : List ℕ) → In u (keep lacks (nodesOf (flags n order) t)) → In u added
+    within u i =
+        let (a, b) = keep-in lacks (nodesOf (flags n order) t) i in
+        let (k, h, _, q) =
+        node-record (sound-view n order d more sd) (fit-order-is n order (f .order-fits)) m hm
+        (subst (λ (z : List ℕ). In u (nodesOf (flags n order) z)) (sym e) a) in
+        elim (decLt k used) [
+          | yes l ↦
+              absurd (elim (among? u (recordTables n c used)) [
+                | inl (y, _) ↦ true≢false (sym b ∙ ap not y)
+                | inr (_, y) ↦ y (cast (sym q ∙ kept (k + 2) (omega arith)) (in-map (λ k. tableOf n c (k + 2)) (in-below l)))
+              ])
+          | no l ↦ cast (sym q) (in-map (λ k. tableOf n d (k + 2)) (in-from used (more - used) k (omega arith) (omega arith)))
+        ]

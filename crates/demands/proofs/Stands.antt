@@ -1,0 +1,120 @@
+-- A diagram stands for its table, and tabulates to it: so do the accepted results of build, pack and check.
+-- Assumes nothing.
+use mathlib.Core.Path.{_≡_, refl, sym, ap, subst, _∙_}
+use mathlib.Core.Bool.{Bool, true, false, not, _&&_, _||_}
+use mathlib.Core.List.{List, [], _∷_}
+use Prim.Native.Nat.{ℕ, zero, suc, _+_, _^_, _≤_}
+use native.Mathlib.Omega.{arith}
+use borrow.Author.Tests.{ltb-false, le-ltb, le-leb, eq-eqb, not-false}
+use lib.Dec.{ltb}
+use lib.ListN.{length}
+use Rattle.rule.specs.Table.{fitLength}
+use Rattle.rule.specs.Level.{size}
+use Rattle.rule.specs.Order.{places, flags, fitOrder, inPlaces, packed}
+use Rattle.rule.specs.Cells.{fitCells, sound}
+use Rattle.rule.specs.Diagram.{tableOf, allReached, diagram}
+use Rattle.rule.specs.Refusals.{Row, refusal, buildRows, checkRows, tabulateRows, packRows}
+use Rattle.rule.specs.Reply.{Reply, reply, Accepted, leaves}
+use Rattle.rule.specs.Results.{rootBy}
+use Rattle.rule.specs.Calls.{Draws, DrawsOr, Build, Check, Pack}
+use Rattle.rule.specs.Demands.{StandsFor, Gives}
+use Rattle.theory.proofs.Tests.{and-split, and-join}
+use Rattle.theory.proofs.Reach.{diagram-view}
+use Rattle.theory.proofs.Sound.{view-sound}
+use Rattle.theory.proofs.Reduced.{diagram-reduced}
+use Rattle.theory.proofs.Refused.{numbered, row-passed}
+use Rattle.theory.proofs.Orders.{packed-fit, packed-flags}
+
+-- a reply that is accepted: there was no refusal, and the values are the call's
+pub accepted-reply : (k : ℕ) {r : Reply} {values given : List ℕ} → r ≡ reply k values → Gives r given → (k ≡ 0) × (values ≡ given)
+accepted-reply zero e q = (refl, cc)
+accepted-reply (suc k) e q = let z : _≡_ {A = ℕ} 0 1 = cc in absurd (omega arith)
+
+-- no row applies
+abbrev Passed : List Row → Type 0
+Passed [] = Unit {0}
+Passed (row ∷ rows) = (row .0 ≡ false) × Passed rows
+
+passed : (rows : List Row) → numbered rows ≡ true → refusal rows ≡ 0 → Passed rows
+passed [] h e = tt
+passed ((b, zero) ∷ rows) h e = let z : _≡_ {A = ℕ} 0 1 = cc in absurd (omega arith)
+passed ((b, suc k) ∷ rows) h e = let (p, q) = row-passed b k rows e in (p, passed rows (and-split (ltb 0 (suc k)) (numbered rows) h .1) q)
+
+module _ (n : ℕ) (order c : List ℕ) (used root : ℕ) (few : n ≤ 10) (o : fitOrder n order ≡ true) (f : fitCells c ≡ true)
+    (d : diagram n order c used root ≡ true) where
+  -- no row of tabulate applies
+  tabulated : (bytes : List ℕ) → length bytes ≡ 2 ^ n → refusal (tabulateRows n order c used root bytes) ≡ 0
+  unfolding fitLength
+  tabulated bytes l =
+      let v = diagram-view n order c used root d in
+      rw (
+        le-ltb 10 n few,
+        eq-eqb (length bytes) (2 ^ n) l,
+        o,
+        f,
+        view-sound n order c used (v .cells),
+        le-ltb (used + 1) root (v .root-is),
+      )
+
+  pub stands : StandsFor n order (tableOf n c root) c used root
+  stands =
+      let (p, q) = diagram-reduced n order c used root d in
+      record {
+        drawn = record { ordered = p; reduced = q; table = refl };
+        tabulates = λ bytes after r s l x.
+            let z = tabulated bytes l in (
+              subst Accepted (sym (x .answer ∙ ap (λ (k : ℕ). reply k []) z)) tt,
+              x .bytes-are ∙ ap (λ (k : ℕ). leaves k (tableOf n c root) bytes) z,
+            );
+      }
+
+-- so does a table's drawing
+drawing : (n : ℕ) (order t c d : List ℕ) → n ≤ 10 → fitOrder n order ≡ true → fitCells c ≡ true → Draws n order t c d
+    → StandsFor n order t d (size (flags n order) t) (rootBy (size (flags n order) t) t)
+unfolding fitCells
+drawing n order t c d few o f x =
+    subst (λ (u : List ℕ). StandsFor n order u d (size (flags n order) t) (rootBy (size (flags n order) t) t)) (x .table)
+    (stands n order d _ _ few o (rw (x .lent) f) (x .is-diagram))
+
+pub built : (n nodes root : ℕ) (t order c d : List ℕ) (r : Reply) → length order ≡ places → Build n t order c r d → Gives r (nodes ∷ root ∷ [])
+    → StandsFor n order t d nodes root
+built n nodes root t order c d r l b g =
+    let (z, v) = accepted-reply (refusal (buildRows n t order c)) (b .answer) g in
+    let (few, (_, (_, (o, (f, _))))) = passed (buildRows n t order c) refl z in
+    let nodes-is : nodes ≡ size (flags n order) t = cc in
+    let root-is : root ≡ rootBy (size (flags n order) t) t = cc in
+    rw (nodes-is, root-is)
+    (drawing n order t c d (ltb-false 10 n few) (not-false _ o) (not-false _ f) (subst (λ (k : ℕ). DrawsOr k n order t c d) z (b .cells)))
+
+pub packs : (n nodes root : ℕ) (t order c w d x : List ℕ) (r : Reply) → Pack n t c w r d x → Gives r (nodes ∷ root ∷ order) → StandsFor n order t d nodes root
+packs n nodes root t order c w d x r b g =
+    let (z, v) = accepted-reply (refusal (packRows n t c w)) (b .answer) g in
+    let (p, (_, (_, (f, _)))) = passed (packRows n t c w) refl z in
+    let few = ltb-false 10 n p in
+    let nodes-is : nodes ≡ size (packed n t) t = cc in
+    let root-is : root ≡ rootBy (size (packed n t) t) t = cc in
+    let order-is : order ≡ inPlaces (packed n t) = cc in
+    let s =
+    drawing n (inPlaces (packed n t)) t c d few (packed-fit n t few) (not-false _ f)
+    (subst (λ (k : ℕ). DrawsOr k n (inPlaces (packed n t)) t c d) z (b .cells)) in
+    rw (nodes-is, root-is, order-is)
+    (subst (λ (o : List ℕ). StandsFor n (inPlaces (packed n t)) t d (size o t) (rootBy (size o t) t)) (packed-flags n t few) s)
+
+-- the test of a diagram's records, with a root up to the last
+neither : (s a : Bool) → (not s || (true && not a)) ≡ false → (s ≡ true) × (a ≡ true)
+neither true true e = (refl, refl)
+neither true false e = let z : _≡_ {A = ℕ} 0 1 = cc in absurd (omega arith)
+neither false a e = let z : _≡_ {A = ℕ} 0 1 = cc in absurd (omega arith)
+
+pub checked : (n nodes used root : ℕ) (order c : List ℕ) (r : Reply) → length order ≡ places → Check n order c used root r → Gives r (nodes ∷ [])
+    → (nodes ≡ used) × StandsFor n order (tableOf n c root) c nodes root
+unfolding diagram
+checked n nodes used root order c r l b g =
+    let (z, v) = accepted-reply (refusal (checkRows n order c used root)) b g in
+    let (few, (o, (f, (q, (m, _))))) = passed (checkRows n order c used root) refl z in
+    let low = le-leb root (used + 1) (ltb-false (used + 1) root m) in
+    let (s, a) = neither (sound n order c used) (allReached c used root) (rw low at q) in
+    let nodes-is : nodes ≡ used = cc in (
+      nodes-is,
+      rw nodes-is (stands n order c used root (ltb-false 10 n few) (not-false _ o) (not-false _ f) (and-join s (and-join low a))),
+    )
