@@ -5,28 +5,27 @@ use mathlib.Core.Path.{_≡_, refl, sym, ap, subst, _∙_}
 use mathlib.Core.Bool.{Bool, true, false}
 use mathlib.Core.Logic.{_≢_}
 use mathlib.Core.List.{List, [], _∷_, _++_}
-use Prim.Native.Nat.{ℕ, suc, _+_, _^_, _≤_, _<_}
+use Prim.Native.Nat.{ℕ, suc, _+_, _≤_, _<_}
 use native.Mathlib.Numerals.{add-one}
 use native.Mathlib.Omega.{arith}
-use lib.ListN.{length, getD, take, drop, take-append-drop}
+use lib.ListN.{length, getD, take, drop}
 use lib.Seq.{take-suc, take-all, getD-take, split-at, length-take-le}
-use Rattle.rule.specs.Bits.{bit, setBit}
-use Rattle.rule.specs.Table.{cofactor, depends, fixings}
-use Rattle.rule.specs.Level.{levelNodes, nodesOf}
-use Rattle.rule.specs.Order.{flags, fitOrder, askedBefore, level}
+use Rattle.rule.specs.Bits.{setBit}
+use Rattle.rule.specs.Table.{cofactor, depends}
+use Rattle.rule.specs.Level.{nodesOf}
+use Rattle.rule.specs.Order.{flags, askedBefore, level}
 use Rattle.rule.specs.Cells.{room}
 use Rattle.rule.specs.Diagram.{tableOf}
 use Rattle.theory.proofs.Member.{In, head, append-right}
 use Rattle.theory.proofs.Bits.{bit-same, bit-other, setBit-lt}
-use Rattle.theory.proofs.Cofactor.{row-lt, length-cofactor, not-depends, depends-false}
-use Rattle.theory.proofs.Perm.{Once}
+use Rattle.theory.proofs.Cofactor.{row-lt, depends-false}
 use Rattle.theory.proofs.Friedman.{in-level}
 use Rattle.theory.proofs.Sets.{Order}
 use Rattle.theory.proofs.Orders.{order-length, fit-order-is}
 use Rattle.theory.proofs.Levels.{asked-prefix, asked-lower}
 use Rattle.theory.proofs.Sound.{Sound, sound-view, view-sound}
-use Rattle.theory.proofs.Walks.{smaller, walk-end, length-table, table-row, rows-eq}
-use Rattle.theory.proofs.Canonical.{levelOf, level-end, mix, mix-cofactors, canonical}
+use Rattle.theory.proofs.Walks.{walk-end, length-table, table-row, rows-eq}
+use Rattle.theory.proofs.Canonical.{level-end, mix, mix-cofactors, canonical}
 use Rattle.theory.proofs.Counting.{nodes-is}
 use Rattle.theory.proofs.Restrict.{restrict, length-restrict, restrict-in, restrict-snoc, restrict-agree, restrict-all}
 use Rattle.theory.proofs.Growth.{Grows, grows-none, grows-more, older, older-level}
@@ -34,7 +33,7 @@ use Rattle.unique.specs.declared.Grown.{Grown}
 use Rattle.unique.specs.declared.Found.{Found}
 use Rattle.unique.specs.declared.Found.the-variants.{At, Full}
 use Rattle.unique.specs.Node.{Makes, grown}
-use Rattle.unique.specs.Search.{Named, Grew, FoundAs}
+use Rattle.unique.specs.Search.{FoundAs}
 use Rattle.unique.proofs.Search.{Branch, made}
 use Rattle.building.specs.Draw.{Drawing, Draw}
 

@@ -1,38 +1,34 @@
 -- A whole drawing from cleared cells: it is the diagram of the table, or the table's diagram has more nodes than there is room for.
 -- Assumes nothing.
-use mathlib.Core.Path.{_≡_, refl, sym, ap, subst, _∙_}
-use mathlib.Core.Logic.{⊎-elim, inl, inr}
-use mathlib.Core.Bool.{true, cond}
-use mathlib.Core.List.{List, [], _∷_, map}
-use Prim.Native.Nat.{ℕ, zero, suc, _+_, _^_, _≤_, _<_}
+use mathlib.Core.Path.{_≡_, sym, ap, subst, _∙_}
+use mathlib.Core.Logic.{⊎-elim}
+use mathlib.Core.Bool.{true}
+use mathlib.Core.List.{List, _∷_}
+use Prim.Native.Nat.{ℕ, zero, suc, _+_, _<_}
 use native.Mathlib.Omega.{arith}
-use lib.Dec.{eqb}
 use lib.ListN.{length, getD, replicate, length-replicate, length-map}
 use lib.Pow.{pow-pos}
-use borrow.Author.Tests.{eq-eqb, ne-eqb}
+use borrow.Author.Tests.{ne-eqb}
 use Rattle.rule.specs.Bits.{below}
 use Rattle.rule.specs.Level.{nodesOf, size}
 use Rattle.rule.specs.Order.{flags}
 use Rattle.rule.specs.Cells.{room}
 use Rattle.rule.specs.Diagram.{tableOf, diagram}
-use Rattle.rule.specs.Results.{rootBy}
-use Rattle.rule.specs.Calls.{Draws}
+use Rattle.rule.specs.Results.{rootBy, recordTables}
 use Rattle.theory.proofs.Member.{In, map-in, cast, cases-cons}
 use Rattle.theory.proofs.Bits.{below-in, length-from}
-use Rattle.theory.proofs.Perm.{Once, Within, once-length, once-from, once-map}
+use Rattle.theory.proofs.Perm.{Within, once-length}
 use Rattle.theory.proofs.Sets.{Order}
 use Rattle.theory.proofs.Orders.{fit-order-is}
-use Rattle.theory.proofs.Sound.{Sound, view-sound, sound-cleared}
+use Rattle.theory.proofs.Sound.{view-sound, sound-cleared}
 use Rattle.theory.proofs.Walks.{smaller, walk-end, table-row}
-use Rattle.theory.proofs.Canonical.{canonical}
 use Rattle.theory.proofs.Reach.{Diagram, all-reached, view-diagram, root-last}
-use Rattle.theory.proofs.Counting.{drawn-all-reached, used-size}
+use Rattle.theory.proofs.Counting.{drawn-all-reached, used-size, tables-once}
 use Rattle.theory.proofs.Restrict.{restrict}
-use Rattle.unique.specs.declared.Grown.{Grown}
 use Rattle.unique.specs.declared.Found.the-variants.{Full}
 use Rattle.unique.specs.Node.{grown}
 use Rattle.building.specs.Draw.{Drawing, Draw}
-use Rattle.building.specs.Fill.{Fits, Filled, Unfilled}
+use Rattle.building.specs.Fill.{Fits, Filled}
 
 -- what drawing is given at the root
 pub start : {n : ℕ} {t order c : List ℕ} → Fits n t order c → Drawing n t order 0 0 (replicate (length c) 0) 0
@@ -99,17 +95,7 @@ module _ {n : ℕ} {t order c : List ℕ} (f : Fits n t order c) where
   -- one node more than there is room for
   module _ {used : ℕ} {d : List ℕ} (a : Draw n t order 0 0 (replicate (length c) 0) 0 (record { used = used; found = Full }) d) where
     tables : List (List ℕ)
-    tables = map (λ (k : ℕ). tableOf n d (k + 2)) (below used)
-
-    tables-once : Once tables
-    unfolding tables
-    tables-once =
-        once-map (λ (k : ℕ). tableOf n d (k + 2)) (below used)
-        (λ j k hj hk e.
-        let q : j + 2 ≡ k + 2 =
-        canonical (a .grows .is-sound) ord (j + 2) (k + 2) (omega (arith, below-in hj)) (omega (arith, below-in hk)) e in
-        omega arith)
-        (once-from 0 used)
+    tables = recordTables n d used
 
     missing-new : In (a .is .missing) tables → ⊥
     unfolding tables
@@ -132,7 +118,7 @@ module _ {n : ℕ} {t order c : List ℕ} (f : Fits n t order c) where
     exceeds =
         omega (
           arith,
-          once-length (a .is .missing ∷ tables) (nodesOf (flags n order) t) (missing-new, tables-once) called,
+          once-length (a .is .missing ∷ tables) (nodesOf (flags n order) t) (missing-new, tables-once (a .grows .is-sound) ord) called,
           length-map (below used) (λ (k : ℕ). tableOf n d (k + 2)),
           length-from 0 used,
           a .is .full,

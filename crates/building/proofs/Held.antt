@@ -14,7 +14,6 @@ use Rattle.theory.proofs.Restrict.{restrict}
 use Rattle.unique.specs.declared.Grown.{Grown}
 use Rattle.unique.specs.declared.Found.{Found}
 use Rattle.unique.specs.declared.Found.the-variants.{At, Full}
-use Rattle.unique.specs.Node.{grown}
 use Rattle.unique.specs.Search.{FoundAs}
 use Rattle.building.specs.Draw.{Drawing, Draw}
 use Rattle.building.specs.Fill.{Fits, Filled}

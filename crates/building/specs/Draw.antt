@@ -7,7 +7,7 @@ use Prim.Native.Nat.{ℕ, _^_, _≤_, _<_}
 use lib.ListN.{length, take}
 use Rattle.rule.specs.Table.{fitRows}
 use Rattle.rule.specs.Level.{nodesOf}
-use Rattle.rule.specs.Order.{places, flags, fitOrder}
+use Rattle.rule.specs.Order.{flags, fitOrder}
 use Rattle.rule.specs.Cells.{room, sound}
 use Rattle.theory.proofs.Restrict.{restrict}
 use Rattle.unique.specs.declared.Grown.{Grown}

@@ -1,11 +1,11 @@
 -- Cells that are cleared from one place up to another.
 -- Assumes nothing.
 use mathlib.Core.Path.{_≡_, refl, sym, ap, _∙_}
-use mathlib.Core.List.{List, [], _++_}
+use mathlib.Core.List.{List, _++_}
 use Prim.Native.Nat.{ℕ, _+_, _-_, _*_, _≤_, _<_}
 use native.Mathlib.Decide.{decLt}
 use native.Mathlib.Omega.{arith}
-use lib.ListN.{length, getD, take, set, replicate, length-set, length-append, length-take, length-replicate, getD-replicate, List·getD-append}
+use lib.ListN.{length, getD, take, set, replicate, length-set, length-append, length-replicate, getD-replicate, List·getD-append}
 use lib.Seq.{ext-getD, length-take-le, getD-take, getD-append-add, getD-set-same, getD-set-other}
 use Rattle.cells.specs.Record.{clearFrom}
 

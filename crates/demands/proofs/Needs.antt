@@ -19,23 +19,12 @@ use Rattle.rule.specs.Demands.{Fit}
 use Rattle.theory.proofs.Member.{In, cast, in-map, map-in}
 use Rattle.theory.proofs.Bits.{length-from, below-in, in-below, in-from}
 use Rattle.theory.proofs.Tests.{among?, keep-in}
-use Rattle.theory.proofs.Perm.{Once, once-length, once-keep, once-from, once-map, perm-once, perm-of-length}
-use Rattle.theory.proofs.Sets.{Order}
+use Rattle.theory.proofs.Perm.{Once, once-length, once-keep, perm-once, perm-of-length}
 use Rattle.theory.proofs.Orders.{fit-order-is}
-use Rattle.theory.proofs.Sound.{Sound, sound-view}
-use Rattle.theory.proofs.Canonical.{canonical}
-use Rattle.theory.proofs.Counting.{node-record, record-node}
+use Rattle.theory.proofs.Sound.{sound-view}
+use Rattle.theory.proofs.Counting.{tables-once, node-record, record-node}
 use Rattle.demands.proofs.Counts.{drawn-diagram, counts}
 use Rattle.demands.proofs.Exists.{exists}
-
--- no two records have one table
-tables-once : {n used : ℕ} {order c : List ℕ} → Sound n order c used → Order n (flags n order) → Once (recordTables n c used)
-tables-once {n} {used} {order} {c} s o =
-    once-map (λ k. tableOf n c (k + 2)) (below used)
-    (λ j k mj mk e.
-    let q : j + 2 ≡ k + 2 = canonical s o (j + 2) (k + 2) (omega (arith, below-in mj)) (omega (arith, below-in mk)) e in
-    omega arith)
-    (once-from 0 used)
 
 -- no node of a table's diagram is counted twice: in a diagram of it each is the table of one record
 nodes-once : (n : ℕ) (order t : List ℕ) → Fit n order t → Once (nodesOf (flags n order) t)

@@ -1,6 +1,6 @@
 -- What `operate` answers: the operator's digit, or a refusal where the code is above 15.
 -- Assumes nothing.
-use mathlib.Core.Bool.{Bool, cond}
+use mathlib.Core.Bool.{cond}
 use Prim.Native.Nat.{ℕ}
 use lib.Dec.{ltb}
 use Rattle.rule.specs.Results.{digit}

@@ -15,7 +15,7 @@ use Rattle.rule.specs.Cells.{sound}
 use Rattle.rule.specs.Diagram.{tableOf, diagram, asking}
 use Rattle.rule.specs.Reduced.{DrawnAs}
 use Rattle.rule.specs.Results.{needed}
-use Rattle.rule.specs.Reply.{Reply, accepted, refused, numberOf, Accepted}
+use Rattle.rule.specs.Reply.{Reply, accepted, numberOf, Accepted}
 use Rattle.rule.specs.Calls.{State, Build, Check, Tabulate, Walk, Pack}
 use Rattle.rule.specs.Files.{Reads}
 use Rattle.rule.specs.History.{Call, Meets, Calls, Opens, BeginsOpen, Book, inBook, enter, bookOf}

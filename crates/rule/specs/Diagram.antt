@@ -1,8 +1,8 @@
 -- Walks, the table of a node, reach and diagrams (document 01, "Tables, orders, nodes").
 -- Assumes nothing.
 use mathlib.Core.Bool.{Bool, cond, true, false, _&&_, _||_}
-use mathlib.Core.List.{List, map}
-use Prim.Native.Nat.{ℕ, zero, suc, _+_, _^_}
+use mathlib.Core.List.{List}
+use Prim.Native.Nat.{ℕ, zero, suc, _+_}
 use lib.Dec.{eqb, leb}
 use lib.ListN.{length}
 use Rattle.rule.specs.Bits.{bit, below}

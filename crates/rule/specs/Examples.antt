@@ -1,14 +1,14 @@
 -- The settled examples that document 01 marks P, as rows of one table. Character r from the left, counted from 0, is row r; "Where no order is given with
 -- the nodes, the table is packed." The proof of them all is proofs/Examples.antt.
 -- Assumes nothing.
-use mathlib.Core.Bool.{Bool, true, false, _&&_}
-use mathlib.Core.List.{List, [], _∷_, map}
-use Prim.Native.Nat.{ℕ, _-_}
+use mathlib.Core.Bool.{Bool, _&&_}
+use mathlib.Core.List.{List, [], _∷_}
+use Prim.Native.Nat.{ℕ}
 use Prim.Native.String.{String}
 use lib.Dec.{eqb}
 use lib.ListN.{replicate}
 use Rattle.rule.specs.Tests.{each, same}
-use Rattle.rule.specs.Level.{levelCount, size}
+use Rattle.rule.specs.Level.{size}
 use Rattle.rule.specs.Order.{rising, orders, packed}
 use Rattle.rule.specs.Results.{rootBy}
 use Rattle.rule.specs.Files.{reading, readNumber, readValues}

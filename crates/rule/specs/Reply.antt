@@ -1,6 +1,6 @@
 -- What a call hands back and leaves, as the paper counts it (document 01, "Refused, by where it is found").
 -- Assumes nothing.
-use mathlib.Core.List.{List, [], _∷_, map}
+use mathlib.Core.List.{List, map}
 use Prim.Native.Nat.{ℕ, zero, suc}
 
 -- what a call hands back, as the paper counts it: accepted with its values, or refused with its number and what stands in the values' place

@@ -1,6 +1,6 @@
 -- Truth tables, cofactors and support (document 01, "Tables, orders, nodes" and "Packing"). A rule's table is the list of its rows.
 -- Assumes nothing.
-use mathlib.Core.Bool.{Bool, not, _&&_}
+use mathlib.Core.Bool.{Bool, not}
 use mathlib.Core.List.{List, [], _∷_, _++_, map}
 use Prim.Native.Nat.{ℕ, _^_}
 use lib.Dec.{eqb, ltb}

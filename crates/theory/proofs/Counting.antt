@@ -16,6 +16,7 @@ use Rattle.rule.specs.Level.{levelNodes, levelCount, nodesFrom, nodesOf, size}
 use Rattle.rule.specs.Order.{flags, askedBefore, level}
 use Rattle.rule.specs.Cells.{flagAt, recordOf}
 use Rattle.rule.specs.Diagram.{reach, allReached, tableOf, asking}
+use Rattle.rule.specs.Results.{recordTables}
 use Rattle.theory.proofs.Bits.{length-from, below-in, in-below}
 use Rattle.theory.proofs.Tests.{keep-in, in-keep}
 use Rattle.theory.proofs.Perm.{once-map, Once, Within, Exactly, once-set, once-keep, once-from}
@@ -238,3 +239,12 @@ friedman-asking {n} {root} {order} {order′} {c} x y o o′ e v hv w w′ =
 pub same-asking : {n used used′ root root′ : ℕ} {order c d : List ℕ} → Diagram n order c used root → Diagram n order d used′ root′
     → Order n (flags n order) → tableOf n c root ≡ tableOf n d root′ → (v : ℕ) → v < n → asking c used v ≡ asking d used′ v
 same-asking x y o e v hv = friedman-asking x y o o e v hv (λ i m. m) (λ i m. m)
+
+-- no two records have one table
+pub tables-once : {n used : ℕ} {order c : List ℕ} → Sound n order c used → Order n (flags n order) → Once (recordTables n c used)
+tables-once {n} {used} {order} {c} s o =
+    once-map (λ k. tableOf n c (k + 2)) (below used)
+    (λ j k mj mk e.
+    let q : j + 2 ≡ k + 2 = canonical s o (j + 2) (k + 2) (omega (arith, below-in mj)) (omega (arith, below-in mk)) e in
+    omega arith)
+    (once-from 0 used)

@@ -1,21 +1,17 @@
 -- How a store grows: older records stay as they are, and each new record's table is one that the result calls for.
 -- Assumes nothing.
-use mathlib.Core.Path.{_≡_, refl, sym, ap, subst, _∙_}
-use mathlib.Core.Logic.{_⊎_, inl, inr, ⊎-elim}
-use mathlib.Core.List.{List, [], _∷_, map}
-use Prim.Native.Nat.{ℕ, zero, suc, _+_, _*_, _≤_, _<_}
+use mathlib.Core.Path.{_≡_, refl, sym, ap, _∙_}
+use mathlib.Core.Logic.{inl, inr}
+use mathlib.Core.List.{List}
+use Prim.Native.Nat.{ℕ, _+_, _*_, _≤_, _<_}
 use native.Mathlib.Decide.{decLt}
 use native.Mathlib.Omega.{arith}
-use lib.ListN.{length, getD, length-map}
-use Rattle.rule.specs.Bits.{below}
+use lib.ListN.{length, getD}
 use Rattle.rule.specs.Order.{flags, level}
-use Rattle.rule.specs.Cells.{width, room, flagAt, lowAt, highAt, recordOf}
+use Rattle.rule.specs.Cells.{width}
 use Rattle.rule.specs.Diagram.{tableOf}
-use Rattle.rule.specs.Results.{recordTables}
-use Rattle.theory.proofs.Member.{In, head, tail, map-in, cases-cons}
-use Rattle.theory.proofs.Bits.{below-in, in-below, length-from}
-use Rattle.theory.proofs.Perm.{Once, Within, once-length, once-from}
-use Rattle.theory.proofs.Sets.{Order}
+use Rattle.theory.proofs.Member.{In}
+use Rattle.theory.proofs.Perm.{Within}
 use Rattle.theory.proofs.Sound.{Sound}
 use Rattle.theory.proofs.Walks.{node, smaller, table-kept, flag-kept}
 use Rattle.theory.proofs.Canonical.{levelOf, level-end, level-record}

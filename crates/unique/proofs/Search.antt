@@ -2,11 +2,10 @@
 -- Assumes nothing.
 use mathlib.Core.Path.{_≡_, sym, ap, _∙_}
 use mathlib.Core.List.{List}
-use Prim.Native.Nat.{ℕ, _+_, _^_, _≤_, _<_}
+use Prim.Native.Nat.{ℕ, _+_, _≤_, _<_}
 use native.Mathlib.Omega.{arith}
 use lib.ListN.{length}
 use Rattle.rule.specs.Order.{flags, level}
-use Rattle.rule.specs.Cells.{room, flagAt, lowAt, highAt}
 use Rattle.rule.specs.Diagram.{tableOf}
 use Rattle.cells.proofs.Record.{put-length}
 use Rattle.theory.proofs.Member.{In, cast}
@@ -16,9 +15,9 @@ use Rattle.theory.proofs.Walks.{smaller, table-kept, length-table}
 use Rattle.theory.proofs.Canonical.{levelOf, level-record, mix, mix-same, table-mix, canonical}
 use Rattle.theory.proofs.Growth.{Grows, grows-none}
 use Rattle.unique.specs.declared.Grown.{Grown}
-use Rattle.unique.specs.Node.{Is, None, Makes, child, old, new, full}
-use Rattle.unique.specs.Search.{Named, Lacks, Grew}
-use Rattle.unique.proofs.Extend.{Allowed, Added, extended, added-put, longer, added-longer}
+use Rattle.unique.specs.Node.{None, Makes, child, old, new, full}
+use Rattle.unique.specs.Search.{Named, Grew}
+use Rattle.unique.proofs.Extend.{Allowed, Added, extended, added-put, added-longer}
 
 -- a flag and two older nodes at later levels
 pub record Branch (n : ℕ) (order c : List ℕ) (used v low high : ℕ) : Type 0 where

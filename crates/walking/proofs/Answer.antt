@@ -9,7 +9,7 @@ use lib.ListN.{length}
 use lib.Pow.{pow-mono}
 use Rattle.rule.specs.Table.{fitLength}
 use Rattle.rule.specs.Diagram.{walk, tableOf}
-use Rattle.rule.specs.Refusals.{refusal, node, rowArgument, walkRows, tabulateRows}
+use Rattle.rule.specs.Refusals.{refusal, node, rowArgument, tabulateRows}
 use Rattle.rule.specs.Reply.{accepted, refused, reply, leaves}
 use Rattle.theory.proofs.Refused.{refused-more, refused-reply}
 use Rattle.theory.proofs.Sound.{sound-view}

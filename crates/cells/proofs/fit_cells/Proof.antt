@@ -1,6 +1,5 @@
 -- `cells::fit_cells` meets its contract: each way rewrites with its own test.
 -- Assumes nothing.
-use mathlib.Core.Path.{_≡_, refl, sym, ap, _∙_}
 use borrow.Author.Tests.{eq-eqb, ne-eqb}
 use Rattle.rule.specs.Cells.{fitCells}
 use Rattle.cells.proofs.fit_cells.Statement.{statement}

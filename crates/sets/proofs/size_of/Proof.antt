@@ -1,7 +1,5 @@
 -- `sets::size_of` meets its contract: the machine's count of ones is that of the ten-bit number.
 -- Assumes nothing.
-use mathlib.Core.Path.{_≡_, sym}
-use native.Mathlib.Omega.{arith}
 use lib.Count.{ones-le}
 use Rattle.sets.proofs.Size.{ones-in}
 use Rattle.sets.proofs.size_of.Statement.{statement}

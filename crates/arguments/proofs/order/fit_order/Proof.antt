@@ -1,6 +1,6 @@
 -- `arguments::order::fit_order` meets its contract: both tests, or the first that fails.
 -- Assumes nothing.
-use mathlib.Core.Path.{_≡_, sym, _∙_}
+use mathlib.Core.Path.{sym, _∙_}
 use borrow.Author.Needs.{needs}
 use Rattle.rule.specs.Order.{fitOrder}
 use Rattle.arguments.proofs.order.fit_order.Statement.{statement}

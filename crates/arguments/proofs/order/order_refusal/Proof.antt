@@ -1,6 +1,6 @@
 -- `arguments::order::order_refusal` meets its contract: each way rewrites with the tests that led to it.
 -- Assumes nothing.
-use mathlib.Core.Path.{_≡_, sym, _∙_}
+use mathlib.Core.Path.{sym, _∙_}
 use borrow.Author.Needs.{needs}
 use borrow.Author.Tests.{lt-ltb, le-ltb}
 use Rattle.arguments.proofs.order.order_refusal.Statement.{statement}

@@ -1,6 +1,6 @@
 -- `building::call::build` meets its contract: each way is an answer of Answer.antt.
 -- Assumes nothing.
-use mathlib.Core.Path.{_≡_, sym, _∙_}
+use mathlib.Core.Path.{sym, _∙_}
 use borrow.Author.Needs.{needs}
 use borrow.Author.Tests.{not-true, not-false}
 use Rattle.building.proofs.Answer.{few, table-refused, order-refused, cells-refused, fits, exceeded, drawn}

@@ -1,6 +1,5 @@
 -- `building::tree::draw` meets its contract: the measure is the number of flags that are left, and each step is one of Branches.antt.
 -- Assumes nothing.
-use mathlib.Core.Path.{_≡_, sym, ap, subst, _∙_}
 use Prim.Native.Nat.{ℕ, _-_, _<_}
 use native.Mathlib.Omega.{arith}
 use borrow.Author.Needs.{needs}

@@ -1,6 +1,6 @@
 -- `script::draw::asking` meets its contract: it counts up to the used records.
 -- Assumes nothing.
-use Prim.Native.Nat.{_+_, _-_, _≤_, _<_}
+use Prim.Native.Nat.{_-_, _≤_}
 use borrow.Author.Needs.{needs}
 use Rattle.script.proofs.draw.asking.Statement.{statement}
 use Rattle.script.proofs.draw.asking.Tie as tie

@@ -1,6 +1,6 @@
 -- `script::draw::flag_count` meets its contract: it counts up to 11.
 -- Assumes nothing.
-use Prim.Native.Nat.{_+_, _-_, _≤_, _<_}
+use Prim.Native.Nat.{_-_, _≤_}
 use borrow.Author.Needs.{needs}
 use Rattle.script.proofs.draw.flag_count.Statement.{statement}
 use Rattle.script.proofs.draw.flag_count.Tie as tie

@@ -1,6 +1,6 @@
 -- `script::draw::flag_counts` meets its contract: it counts up to the flags.
 -- Assumes nothing.
-use Prim.Native.Nat.{_+_, _-_, _≤_, _<_}
+use Prim.Native.Nat.{_-_, _≤_}
 use borrow.Author.Needs.{needs}
 use Rattle.script.proofs.draw.flag_counts.Statement.{statement}
 use Rattle.script.proofs.draw.flag_counts.Tie as tie

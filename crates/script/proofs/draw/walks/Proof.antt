@@ -1,6 +1,6 @@
 -- `script::draw::walks` meets its contract: it counts up to 1,024.
 -- Assumes nothing.
-use Prim.Native.Nat.{_+_, _-_, _≤_, _<_}
+use Prim.Native.Nat.{_-_, _≤_}
 use borrow.Author.Needs.{needs}
 use Rattle.script.proofs.draw.walks.Statement.{statement}
 use Rattle.script.proofs.draw.walks.Tie as tie

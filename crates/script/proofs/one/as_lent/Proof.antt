@@ -1,6 +1,6 @@
 -- `script::one::as_lent` meets its contract: it counts up to the length.
 -- Assumes nothing.
-use Prim.Native.Nat.{_+_, _-_, _≤_, _<_}
+use Prim.Native.Nat.{_-_, _≤_}
 use borrow.Author.Needs.{needs}
 use Rattle.script.proofs.one.as_lent.Statement.{statement}
 use Rattle.script.proofs.one.as_lent.Tie as tie

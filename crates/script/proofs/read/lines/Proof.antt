@@ -1,6 +1,6 @@
 -- `script::read::lines` meets its contract: each line moves it on.
 -- Assumes nothing.
-use Prim.Native.Nat.{_+_, _-_, _≤_, _<_}
+use Prim.Native.Nat.{_-_, _≤_}
 use borrow.Author.Needs.{needs}
 use lib.ListN.{length}
 use Rattle.script.proofs.read.lines.Statement.{statement}

@@ -1,6 +1,6 @@
 -- `script::read::number` meets its contract: the value stays a sixteen-bit number.
 -- Assumes nothing.
-use Prim.Native.Nat.{_+_, _-_, _≤_, _<_}
+use Prim.Native.Nat.{_-_, _<_}
 use borrow.Author.Needs.{needs}
 use lib.ListN.{length}
 use Rattle.script.proofs.read.number.Statement.{statement}
