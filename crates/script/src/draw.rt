@@ -140,6 +140,7 @@ pub fn draw(text: &[u8], at: usize) {
     let order = order(text, rows.next);
     let count = rows.value as usize;
     if 2048 < count {
+        print::too_long();
         return;
     }
     let mut cells = [7u16; 3072];

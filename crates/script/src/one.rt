@@ -39,9 +39,11 @@ pub fn build(text: &[u8], at: usize) {
     let count = rows.value as usize;
     let length = lent.value as usize;
     if 2048 < count {
+        print::too_long();
         return;
     }
     if 4096 < length {
+        print::too_long();
         return;
     }
     let drawn = building::build(
@@ -64,22 +66,36 @@ pub fn build(text: &[u8], at: usize) {
     }
 }
 
-// c N ORDER USED ROOT CELL CELL ..
-pub fn check(text: &[u8], at: usize) {
+// A node of records in use, and the place behind it.
+struct Asked {
+    n: u8,
+    order: Order,
+    used: u16,
+    node: Node,
+    next: usize,
+}
+
+// N ORDER USED NODE
+fn place(text: &[u8], at: usize) -> Asked {
     let n = number(text, at);
     let places = number(text, n.next);
-    let order = order(text, n.next);
     let used = number(text, places.next);
-    let root = number(text, used.next);
+    let node = number(text, used.next);
+    Asked {
+        n: flags(n.value),
+        order: order(text, n.next),
+        used: used.value,
+        node: Node { number: node.value },
+        next: node.next,
+    }
+}
+
+// c N ORDER USED ROOT CELL CELL ..
+pub fn check(text: &[u8], at: usize) {
+    let of = place(text, at);
     let mut lent = [0u16; 4096];
-    let length = cells(text, root.next, &mut lent);
-    let counted = checking::check(
-        flags(n.value),
-        order,
-        &lent[0..length],
-        used.value,
-        Node { number: root.value },
-    );
+    let length = cells(text, of.next, &mut lent);
+    let counted = checking::check(of.n, of.order, &lent[0..length], of.used, of.node);
     match counted {
         Counted::Nodes(nodes) => print::number(b"nodes", nodes),
         Counted::Refused(k) => print::refused(k),
@@ -88,20 +104,16 @@ pub fn check(text: &[u8], at: usize) {
 
 // w N ORDER USED NODE ROW CELL CELL ..
 pub fn walk(text: &[u8], at: usize) {
-    let n = number(text, at);
-    let places = number(text, n.next);
-    let order = order(text, n.next);
-    let used = number(text, places.next);
-    let node = number(text, used.next);
-    let row = number(text, node.next);
+    let of = place(text, at);
+    let row = number(text, of.next);
     let mut lent = [0u16; 4096];
     let length = cells(text, row.next, &mut lent);
     let said = walking::walk(
-        flags(n.value),
-        order,
+        of.n,
+        of.order,
         &lent[0..length],
-        used.value,
-        Node { number: node.value },
+        of.used,
+        of.node,
         row.value,
     );
     match said {
@@ -112,37 +124,25 @@ pub fn walk(text: &[u8], at: usize) {
 
 // t N ORDER USED NODE BYTES CELL CELL ..
 pub fn tabulate(text: &[u8], at: usize) {
-    let n = number(text, at);
-    let places = number(text, n.next);
-    let order = order(text, n.next);
-    let used = number(text, places.next);
-    let node = number(text, used.next);
-    let bytes = number(text, node.next);
+    let of = place(text, at);
+    let bytes = number(text, of.next);
     let mut lent = [0u16; 4096];
     let length = cells(text, bytes.next, &mut lent);
     let mut rows = [7u8; 2048];
     let count = bytes.value as usize;
     if 2048 < count {
+        print::too_long();
         return;
     }
-    table(
-        flags(n.value),
-        order,
-        &lent[0..length],
-        used.value,
-        node.value,
-        &mut rows[0..count],
-    );
+    table(of, &lent[0..length], &mut rows[0..count]);
 }
 
 // The answer of tabulate, and the lent bytes after it.
-fn table(n: u8, order: Order, cells: &[u16], used: u16, node: u16, bytes: &mut [u8]) {
-    match walking::tabulate(n, order, cells, used, Node { number: node }, bytes) {
-        Done::Accepted => print::text(b"rows "),
-        Done::Refused(k) => {
-            print::refused(k);
-            print::text(b" ");
-        }
+fn table(of: Asked, cells: &[u16], bytes: &mut [u8]) {
+    match walking::tabulate(of.n, of.order, cells, of.used, of.node, bytes) {
+        Done::Accepted => print::text(b"rows"),
+        Done::Refused(k) => print::refused(k),
     }
+    print::text(b" ");
     print::rows(bytes);
 }

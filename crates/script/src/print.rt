@@ -33,6 +33,11 @@ pub fn rows(table: &[u8]) {
     }
 }
 
+// Said of a line that asks for more than the script can lend.
+pub fn too_long() {
+    text(b"too long");
+}
+
 pub fn unknown() {
     io::write_all(STDOUT_FILENO, b"unknown");
 }
