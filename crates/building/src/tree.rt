@@ -1,7 +1,21 @@
+use rule::Node;
 use rule::Order;
 use unique::Found;
 use unique::Grown;
+ghost use mathlib.Core.Path.{_≡_};
+ghost use Prim.Native.Nat.{_<_};
 ghost use Rattle.building.specs.Draw.{Drawing, Draw};
+
+// The end node that gives the answer.
+fn end_node(answer: u8) -> u16
+    requires { ⌜ answer < 2 ⌝ }
+    ensures { λ r. ⌜ r ≡ answer ⌝ }
+{
+    if answer == 0 {
+        return Node::NO.number;
+    }
+    Node::YES.number
+}
 
 // The node of the table's rule with the flags before level `at` fixed as in the row: its two branches, then the node that joins them.
 pub fn draw(
@@ -17,10 +31,10 @@ pub fn draw(
     ensures { λ r. ⌜ Draw n (now (table .entry)) (order .places) at row (now (cells .entry)) used r (now (cells .exit)) ⌝ }
 {
     if n <= at {
-        let answer = table[row as usize] as u16;
+        let end = end_node(table[row as usize]);
         return Grown {
             used,
-            found: Found::At(answer),
+            found: Found::At(end),
         };
     }
     let flag = order.places[at as usize] as u16;

@@ -12,6 +12,7 @@ use Rattle.building.proofs.Branches.{cells, leaf, flag-lt, first, secon
 use Rattle.building.proofs.tree.draw.Reads as draw
 use Rattle.building.proofs.tree.draw.Kinds as draw-kinds
 use Rattle.building.proofs.tree.+draw.Lts-draw as draw-lts
+use Rattle.building.proofs.tree.end_node.Reads as end-node-reads
 use Rattle.bits.proofs.set_bit.Reads as set-bit-reads
 use Rattle.unique.proofs.make.Reads as make-reads
 use Rattle.building.proofs.tree.+draw.{statement}
@@ -28,6 +29,8 @@ draw-below t = and 2 draw-kinds.ps (falls 2 draw-kinds.ps _<_ μ-draw t) draw.Pr
 
 pub +draw-spec : {M : Type 1} → statement M
 +draw-spec = close μ-draw λ t. draw-lts.spec (
+  end-node-reads.Asked,
+  end-node-reads.Learnt,
   set-bit-reads.Asked,
   set-bit-reads.Learnt,
   draw-below t,
@@ -38,8 +41,8 @@ pub +draw-spec : {M : Type 1} → statement M
     (draw-at t)
     draw.Post
     (λ c. let s = c .before .before .before .before in omega (arith, s .pre .1 .rows, s .pre .1 .row-fits))
-    (λ c. let s = c .before .before .before .before in omega (arith, row-lt _ (s .pre .1 .bits) (s .args .row)))
-    (λ c. leaf (c .before .before .before .before .pre .1) (c .before .if1 .taken))
+    (λ c κs. let s = c .before .before .before .before in omega (arith, row-lt _ (s .pre .1 .bits) (s .args .row)))
+    (λ c. rw (c .end-node .ensures) (leaf (c .before .before .before .before .before .pre .1) (c .before .before .if1 .taken)))
     (λ c. omega (arith, c .before .before .before .pre .1 .few))
     (λ c.
     let s = c .before .before .before .before in
