@@ -61,7 +61,7 @@ module _ (n : ℕ) (order c : List ℕ) (used root : ℕ) (few : n ≤ 10) (o : 
       let (p, q) = diagram-reduced n order c used root d in
       record {
         drawn = record { ordered = p; reduced = q; table = refl };
-        tabulates = λ bytes after r s l x.
+        tabulates = λ bytes after r l x.
             let z = tabulated bytes l in (
               subst Accepted (sym (x .answer ∙ ap (λ (k : ℕ). reply k []) z)) tt,
               x .bytes-are ∙ ap (λ (k : ℕ). leaves k (tableOf n c root) bytes) z,

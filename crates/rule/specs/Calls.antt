@@ -39,6 +39,15 @@ pub record Build (n : ℕ) (t order c : List ℕ) (r : Reply) (d : List ℕ) : T
 abbrev pub Check : ℕ → List ℕ → List ℕ → ℕ → ℕ → Reply → Type 0
 Check n order c used root r = r ≡ reply (refusal (checkRows n order c used root)) (used ∷ [])
 
+-- "A walk .. hands back the answer": of any node of sound cells, for one row
+pub record Walks (n : ℕ) (order c : List ℕ) (used m row : ℕ) (r : Reply) : Type 0 where
+  pub answer : r ≡ reply (refusal (walkRows n order c used m row)) (walk c m row ∷ [])
+
+-- "tabulate a rule into lent bytes": any node of sound cells
+pub record Tabulates (n : ℕ) (order c : List ℕ) (used m : ℕ) (bytes : List ℕ) (r : Reply) (after : List ℕ) : Type 0 where
+  pub answer : r ≡ reply (refusal (tabulateRows n order c used m bytes)) []
+  pub bytes-are : after ≡ leaves (refusal (tabulateRows n order c used m bytes)) (tableOf n c m) bytes
+
 -- ---- the store
 
 -- "The store's state goes into each call and comes back: n, the order, the number of records used."
@@ -50,16 +59,14 @@ pub record State : Type 0 where
 abbrev pub withUsed : State → ℕ → State
 withUsed s used = record { n = s .n; places = s .places; used = used }
 
--- "walk it for one row": the answer; the state comes back as it was given
+-- the state comes back from walk and tabulate as it was given
 pub record Walk (s : State) (c : List ℕ) (m row : ℕ) (r : Reply) (s′ : State) : Type 0 where
   pub state : s′ ≡ s
-  pub answer : r ≡ reply (refusal (walkRows (s .n) (s .places) c (s .used) m row)) (walk c m row ∷ [])
+  pub walks : Walks (s .n) (s .places) c (s .used) m row r
 
--- "tabulate a rule into lent bytes"
 pub record Tabulate (s : State) (c : List ℕ) (m : ℕ) (bytes : List ℕ) (r : Reply) (s′ : State) (after : List ℕ) : Type 0 where
   pub state : s′ ≡ s
-  pub answer : r ≡ reply (refusal (tabulateRows (s .n) (s .places) c (s .used) m bytes)) []
-  pub bytes-are : after ≡ leaves (refusal (tabulateRows (s .n) (s .places) c (s .used) m bytes)) (tableOf (s .n) c m) bytes
+  pub tabulates : Tabulates (s .n) (s .places) c (s .used) m bytes r after
 
 -- "open: takes n and the order from the state it is given, with any used number, clears all the cells, and sets used to 0"
 pub record Open (s : State) (c : List ℕ) (r : Reply) (s′ : State) (d : List ℕ) : Type 0 where

@@ -16,7 +16,7 @@ use Rattle.rule.specs.Diagram.{tableOf, diagram, asking}
 use Rattle.rule.specs.Reduced.{DrawnAs}
 use Rattle.rule.specs.Results.{needed}
 use Rattle.rule.specs.Reply.{Reply, accepted, numberOf, Accepted}
-use Rattle.rule.specs.Calls.{State, Build, Check, Tabulate, Walk, Pack}
+use Rattle.rule.specs.Calls.{State, Build, Check, Tabulates, Tabulate, Walk, Pack}
 use Rattle.rule.specs.Files.{Reads}
 use Rattle.rule.specs.History.{Call, Meets, Calls, Opens, BeginsOpen, Book, inBook, enter, bookOf}
 
@@ -37,8 +37,7 @@ Gives r values = r ≡ accepted values
 -- a diagram "stands for one table only, tabulating it gives that table, and the node count handed back with it is the number of its records"
 pub record StandsFor (n : ℕ) (order t c : List ℕ) (nodes root : ℕ) : Type 0 where
   pub drawn : DrawnAs n order t c nodes root
-  pub tabulates : (bytes after : List ℕ) (r : Reply) (s : State) → length bytes ≡ 2 ^ n
-      → Tabulate (record { n = n; places = order; used = nodes }) c root bytes r s after → Accepted r × (after ≡ t)
+  pub tabulates : (bytes after : List ℕ) (r : Reply) → length bytes ≡ 2 ^ n → Tabulates n order c nodes root bytes r after → Accepted r × (after ≡ t)
 
 pub record Demand2 : Type 0 where
   -- "A diagram built from a table under an order is the reduced ordered diagram of that table as Bryant and Friedman define it."

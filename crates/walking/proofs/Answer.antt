@@ -17,7 +17,7 @@ use Rattle.theory.proofs.Walks.{smaller}
 use Rattle.checking.proofs.Refused.{cellRows, Taken}
 use Rattle.checking.proofs.Parts.{fit-room, sound-room}
 use Rattle.walking.specs.Walk.{Walkable, Rows, rowsOf}
-use Rattle.walking.specs.Call.{Walks, Tabulates}
+use Rattle.rule.specs.Calls.{Walks, Tabulates}
 
 -- ---- cells that were taken
 

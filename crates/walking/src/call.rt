@@ -6,7 +6,7 @@ use rule::Order;
 use rule::Said;
 ghost use mathlib.Core.Path.{_≡_};
 ghost use Rattle.rule.specs.Answers.{doneReply, saidReply};
-ghost use Rattle.walking.specs.Call.{Walks, Tabulates};
+ghost use Rattle.rule.specs.Calls.{Walks, Tabulates};
 
 // Walk: the answer of a node in a row, or why there is none: 1, 4, 5, 6, 7, then 9.
 pub fn walk(n: u8, order: Order, cells: &[u16], used: u16, node: Node, row: u16) -> Said
