@@ -7,6 +7,7 @@ use Rattle.demands.proofs.Canonical.{canonical, root-last}
 use Rattle.demands.proofs.Counts.{counts}
 use Rattle.demands.proofs.Exists.{exists}
 use Rattle.demands.proofs.Needs.{needs}
+use Rattle.demands.proofs.Same.{one-diagram}
 
 pub demand2 : Demand2
 demand2 =
@@ -19,5 +20,6 @@ demand2 =
       root-last = root-last;
       counts = counts;
       exists = exists;
+      one-diagram = one-diagram;
       needs = needs;
     }

@@ -95,15 +95,15 @@ is? c k flag low high =
           ]
     ]
 
--- one of the first k records is these three, or none is
-search-records : (c : List ℕ) (flag low high k : ℕ) → ((j : ℕ) × (j < k) × Is c j flag low high) ⊎ None c k flag low high
+-- the first of k records that is these three, or none is
+search-records : (c : List ℕ) (flag low high k : ℕ) → ((j : ℕ) × (j < k) × None c j flag low high × Is c j flag low high) ⊎ None c k flag low high
 search-records c flag low high zero = inr (λ j h. absurd (omega arith))
 search-records c flag low high (suc k) =
     elim (search-records c flag low high k) [
-      | inl (j, h, i) ↦ inl (j, omega arith, i)
+      | inl (j, h, b, i) ↦ inl (j, omega arith, b, i)
       | inr none ↦
           elim (is? c k flag low high) [
-            | yes i ↦ inl (k, omega arith, i)
+            | yes i ↦ inl (k, omega arith, none, i)
             | no d ↦
                 inr (λ j h i.
                 elim (eq-or-lt-of-le (le-of-suc-le-suc h)) [
@@ -119,7 +119,7 @@ makes c used flag low high h =
       | yes e ↦ (_, _, child e)
       | no d ↦
           elim (search-records c flag low high used) [
-            | inl (j, l, i) ↦ (_, _, old j l i)
+            | inl (j, l, b, i) ↦ (_, _, old d j l b i)
             | inr none ↦
                 elim (eq-or-lt-of-le h) [
                   | inl e ↦ (_, _, full d none e)

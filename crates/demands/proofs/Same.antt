@@ -11,10 +11,10 @@ use native.Mathlib.Omega.{arith}
 use Rattle.rule.specs.Table.{cofactor, depends}
 use Rattle.rule.specs.Level.{nodesOf}
 use Rattle.rule.specs.Order.{flags, level}
-use Rattle.rule.specs.Cells.{flagAt, lowAt, highAt}
+use Rattle.rule.specs.Cells.{flagAt}
 use Rattle.rule.specs.Diagram.{tableOf}
 use Rattle.rule.specs.Reduced.{DrawnAs}
-use Rattle.rule.specs.Demands.{Fit}
+use Rattle.rule.specs.Demands.{Fit, SameRecord}
 use Rattle.theory.proofs.Member.{In}
 use Rattle.theory.proofs.Orders.{fit-order-is}
 use Rattle.theory.proofs.Sets.{Order}
@@ -22,13 +22,6 @@ use Rattle.theory.proofs.Sound.{Sound}
 use Rattle.theory.proofs.Canonical.{level-record, record-low, record-high, asks, depends-asks}
 use Rattle.theory.proofs.Counting.{record-node, node-record}
 use Rattle.demands.proofs.Counts.{drawn-diagram}
-
--- record j of d has the table and the flag of record k of c, and its children have the tables of k's children
-pub record SameRecord (n : ℕ) (c d : List ℕ) (k j : ℕ) : Type 0 where
-  pub flag : flagAt d j ≡ flagAt c k
-  pub low : tableOf n d (lowAt d j) ≡ tableOf n c (lowAt c k)
-  pub high : tableOf n d (highAt d j) ≡ tableOf n c (highAt c k)
-  pub table : tableOf n d (j + 2) ≡ tableOf n c (k + 2)
 
 module _ {n used : ℕ} {order c : List ℕ} (s : Sound n order c used) (o : Order n (flags n order)) where
   -- of the flags up to its own in the order a record's table depends on that one alone
@@ -59,9 +52,9 @@ module _ {n used more : ℕ} {order c d : List ℕ} (s : Sound n order c used) (
       }
 
 -- each record of a diagram is in every other diagram of the table under the order
-pub same-diagram : (n : ℕ) (order t : List ℕ) → Fit n order t → (c d : List ℕ) (used root more top : ℕ) → DrawnAs n order t c used root
+pub one-diagram : (n : ℕ) (order t : List ℕ) → Fit n order t → (c d : List ℕ) (used root more top : ℕ) → DrawnAs n order t c used root
     → DrawnAs n order t d more top → (k : ℕ) → k < used → (j : ℕ) × (j < more) × SameRecord n c d k j
-same-diagram n order t f c d used root more top x y k h =
+one-diagram n order t f c d used root more top x y k h =
     let o = fit-order-is n order (f .order-fits) in
     let a = drawn-diagram x in
     let b = drawn-diagram y in

@@ -11,7 +11,7 @@ use lib.ListN.{length, getD}
 use Rattle.rule.specs.Table.{fitLength, fitRows}
 use Rattle.rule.specs.Level.{size}
 use Rattle.rule.specs.Order.{places, flags, fitOrder, askedBefore}
-use Rattle.rule.specs.Cells.{sound}
+use Rattle.rule.specs.Cells.{sound, flagAt, lowAt, highAt}
 use Rattle.rule.specs.Diagram.{tableOf, diagram, asking}
 use Rattle.rule.specs.Reduced.{DrawnAs}
 use Rattle.rule.specs.Results.{needed}
@@ -39,6 +39,13 @@ pub record StandsFor (n : ℕ) (order t c : List ℕ) (nodes root : ℕ) : Type 
   pub drawn : DrawnAs n order t c nodes root
   pub tabulates : (bytes after : List ℕ) (r : Reply) → length bytes ≡ 2 ^ n → Tabulates n order c nodes root bytes r after → Accepted r × (after ≡ t)
 
+-- record j of d is record k of c, but for the sequence: it has the same flag, and its children have the tables of k's children
+pub record SameRecord (n : ℕ) (c d : List ℕ) (k j : ℕ) : Type 0 where
+  pub flag : flagAt d j ≡ flagAt c k
+  pub low : tableOf n d (lowAt d j) ≡ tableOf n c (lowAt c k)
+  pub high : tableOf n d (highAt d j) ≡ tableOf n c (highAt c k)
+  pub table : tableOf n d (j + 2) ≡ tableOf n c (k + 2)
+
 pub record Demand2 : Type 0 where
   -- "A diagram built from a table under an order is the reduced ordered diagram of that table as Bryant and Friedman define it."
   pub built : (n nodes root : ℕ) (t order c d : List ℕ) (r : Reply) → length order ≡ places → Build n t order c r d → Gives r (nodes ∷ root ∷ [])
@@ -59,6 +66,9 @@ pub record Demand2 : Type 0 where
   -- what refusal 10 counts for build and pack: the records of each diagram of the table, of which there is one in every order
   pub counts : (n : ℕ) (order t : List ℕ) → Fit n order t → (c : List ℕ) (used root : ℕ) → DrawnAs n order t c used root → used ≡ size (flags n order) t
   pub exists : (n : ℕ) (order t : List ℕ) → Fit n order t → (c : List ℕ) × (used : ℕ) × (root : ℕ) × DrawnAs n order t c used root
+  -- "the reduced ordered diagram of that table": any two have the same records, and "which of the permitted sequences the records stand in is open"
+  pub one-diagram : (n : ℕ) (order t : List ℕ) → Fit n order t → (c d : List ℕ) (used root more top : ℕ) → DrawnAs n order t c used root
+      → DrawnAs n order t d more top → (k : ℕ) → k < used → (j : ℕ) × (j < more) × SameRecord n c d k j
   -- what it counts for a rule made in a store: no sound cells that keep the older nodes and hold the rule use fewer records
   pub needs : (n : ℕ) (order t : List ℕ) → Fit n order t → (c d : List ℕ) (used more m : ℕ) → sound n order c used ≡ true → sound n order d more ≡ true
       → used ≤ more → ((k : ℕ) → k ≤ used + 1 → tableOf n d k ≡ tableOf n c k) → m ≤ more + 1 → tableOf n d m ≡ t

@@ -79,7 +79,7 @@ module _ {n used v low high : ℕ} {order c : List ℕ} (s : Sound n order c use
           later = omega (arith, b .low-later);
         };
       }
-  made (old k h is) =
+  made (old _ k h _ is) =
       record {
         grows = grows-none goal s;
         is = record {

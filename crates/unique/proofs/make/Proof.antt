@@ -10,7 +10,9 @@ returns : tie.Need-returns
 returns c = child (c .if1 .taken)
 
 returns-2 : tie.Need-returns-2
-returns-2 c = old _ (c .if2 .taken) (c .before .find .ensures .there (c .if2 .taken))
+returns-2 c =
+    let found = c .before .find .ensures in
+    old (c .before .before .before .if1 .left) _ (c .if2 .taken) (found .before) (found .there (c .if2 .taken))
 
 returns-3 : tie.Need-returns-3
 returns-3 c =
