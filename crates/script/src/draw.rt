@@ -77,30 +77,25 @@ fn agrees(
     same_rows(bytes, table)
 }
 
-// Whether each row's walk answers what the table has, and the row after the last is refused.
+// What a walk says of a row: its answer, or 100 and the refusal's number.
+fn said(n: u8, order: Order, cells: &[u16], used: u16, root: Node, row: u16) -> u64 {
+    match walking::walk(n, order, cells, used, root, row) {
+        Said::Answer(a) => print::wide(a),
+        Said::Refused(k) => 100 + (k as u64),
+    }
+}
+
+// Whether each row's walk answers what the table has, and the row after the last is refused under 9.
 fn walks(n: u8, table: &[u8], order: Order, cells: &[u16], used: u16, root: Node) -> bool {
     let mut row: u16 = 0;
-    while row < 1024 {
-        let said = walking::walk(n, order, cells, used, root, row);
+    while row < 2048 {
+        let found = said(n, order, cells, used, root, row);
         let at = row as usize;
-        let mut expected: u8 = 9;
-        if at < table.len() {
-            expected = table[at];
-        }
-        let mut found: u8 = 9;
-        match said {
-            Said::Answer(a) => {
-                found = a;
-            }
-            Said::Refused(k) => {
-                found = k;
-            }
-        }
-        if found != expected {
-            return false;
-        }
         if table.len() <= at {
-            return true;
+            return found == 109;
+        }
+        if found != print::wide(table[at]) {
+            return false;
         }
         row += 1;
     }
@@ -116,10 +111,10 @@ fn flag_counts(n: u8, cells: &[u16], used: u16) {
     }
 }
 
-// The table drawn in lent cells, with lent bytes of its length to tabulate it in.
-fn drawn(n: u8, table: &[u8], order: Order, cells: &mut [u16], bytes: &mut [u8]) {
+// The table drawn in lent cells, with lent bytes of its length to tabulate it in. Says where the other calls disagree.
+pub fn drawn(n: u8, table: &[u8], order: Order, cells: &mut [u16], bytes: &mut [u8]) -> Drawn {
     match building::build(n, table, order, cells) {
-        Drawn::Refused(k) => print::refused(k),
+        Drawn::Refused(k) => Drawn::Refused(k),
         Drawn::Diagram { nodes, root } => {
             if !agrees(n, table, order, cells, nodes, root, bytes) {
                 print::text(b"disagrees ");
@@ -127,8 +122,7 @@ fn drawn(n: u8, table: &[u8], order: Order, cells: &mut [u16], bytes: &mut [u8])
             if !walks(n, table, order, cells, nodes, root) {
                 print::text(b"walks otherwise ");
             }
-            print::number(b"nodes", nodes);
-            flag_counts(n, cells, nodes);
+            Drawn::Diagram { nodes, root }
         }
     }
 }
@@ -143,13 +137,14 @@ pub fn draw(text: &[u8], at: usize) {
         print::too_long();
         return;
     }
-    let mut cells = [7u16; 3072];
+    let n = flag_count(count);
+    let mut cells = [7u16; cells::MOST];
     let mut bytes = [7u8; 2048];
-    drawn(
-        flag_count(count),
-        &table[0..count],
-        order,
-        &mut cells,
-        &mut bytes[0..count],
-    );
+    match drawn(n, &table[0..count], order, &mut cells, &mut bytes[0..count]) {
+        Drawn::Refused(k) => print::refused(k),
+        Drawn::Diagram { nodes, root } => {
+            print::number(b"nodes", nodes);
+            flag_counts(n, &cells, nodes);
+        }
+    }
 }

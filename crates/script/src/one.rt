@@ -1,4 +1,5 @@
 // One call a line.
+use crate::draw::drawn;
 use crate::print;
 use crate::read::cells;
 use crate::read::digits;
@@ -46,13 +47,15 @@ pub fn build(text: &[u8], at: usize) {
         print::too_long();
         return;
     }
-    let drawn = building::build(
+    let mut bytes = [7u8; 2048];
+    let answer = drawn(
         flags(n.value),
         &table[0..count],
         order,
         &mut cells[0..length],
+        &mut bytes[0..count],
     );
-    match drawn {
+    match answer {
         Drawn::Diagram { nodes, root } => {
             print::number(b"nodes", nodes);
             print::number(b" root", root.number);
