@@ -5,4 +5,5 @@ pub mod Exists
 pub mod Needs
 pub mod Longer
 pub mod Reader
+pub mod NoRoom
 pub mod Demand2
