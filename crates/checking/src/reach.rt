@@ -12,7 +12,7 @@ fn orphan(cells: &[u16], used: u16, k: u16) -> bool
     requires { ⌜ (used ≤ room (now cells)) × (k ≤ used) ⌝ }
     ensures { λ r. ⌜ r ≡ orphan (now (cells .entry)) used k ⌝ }
 {
-    // in 32 bits, which k + 2 always fits
+    // k + 2 always fits in 32 bits
     let node = k as u32 + 2;
     let mut j: u16 = 0;
     while j < used {

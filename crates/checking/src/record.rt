@@ -36,7 +36,7 @@ pub fn fit_record(n: u8, order: Order, cells: &[u16], k: u16) -> bool
     let flag = cells::flag_at(cells, k);
     let low = cells::low_at(cells, k);
     let high = cells::high_at(cells, k);
-    // in 32 bits, which k + 2 always fits
+    // k + 2 always fits in 32 bits
     let node = k as u32 + 2;
     if n as u16 <= flag {
         return false;

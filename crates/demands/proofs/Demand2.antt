@@ -1,13 +1,14 @@
 -- Demand 2, whole.
 -- Assumes nothing.
 use Rattle.rule.specs.Demands.{Demand2}
-use Rattle.demands.proofs.Stands.{built, packs, checked}
+use Rattle.demands.proofs.Stands.{built, packs, checked, written}
 use Rattle.demands.proofs.Reader.{read}
 use Rattle.demands.proofs.Canonical.{canonical, root-last}
 use Rattle.demands.proofs.Counts.{counts}
 use Rattle.demands.proofs.Exists.{exists}
 use Rattle.demands.proofs.Needs.{needs}
 use Rattle.demands.proofs.Same.{one-diagram}
+use Rattle.demands.proofs.NoRoom.{no-room-built, no-room-packed, no-room-flag, no-room-join, no-room-choose, no-room-fix}
 
 pub demand2 : Demand2
 demand2 =
@@ -16,10 +17,17 @@ demand2 =
       packs = packs;
       checked = checked;
       read = read;
+      written = written;
       canonical = canonical;
       root-last = root-last;
       counts = counts;
       exists = exists;
       one-diagram = one-diagram;
       needs = needs;
+      no-room-built = no-room-built;
+      no-room-packed = no-room-packed;
+      no-room-flag = no-room-flag;
+      no-room-join = no-room-join;
+      no-room-choose = no-room-choose;
+      no-room-fix = no-room-fix;
     }

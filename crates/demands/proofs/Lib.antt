@@ -6,4 +6,5 @@ pub mod Needs
 pub mod Same
 pub mod Longer
 pub mod Reader
+pub mod NoRoom
 pub mod Demand2

@@ -1,4 +1,4 @@
--- A diagram stands for its table, and tabulates to it: so do the accepted results of build, pack and check.
+-- A diagram stands for its table, and tabulates to it: so do the accepted results of build and pack, and what check and the writer accept.
 -- Assumes nothing.
 use mathlib.Core.Path.{_≡_, refl, sym, ap, subst, _∙_}
 use mathlib.Core.Bool.{Bool, true, false, not, _&&_, _||_}
@@ -17,6 +17,7 @@ use Rattle.rule.specs.Refusals.{Row, refusal, buildRows, checkRows, tabulateRow
 use Rattle.rule.specs.Reply.{Reply, reply, Accepted, leaves}
 use Rattle.rule.specs.Results.{rootBy}
 use Rattle.rule.specs.Calls.{Draws, DrawsOr, Build, Check, Pack}
+use Rattle.rule.specs.Files.{writeRows, Writes}
 use Rattle.rule.specs.Demands.{StandsFor, Gives}
 use Rattle.theory.proofs.Tests.{and-split, and-join}
 use Rattle.theory.proofs.Reach.{diagram-view}
@@ -31,7 +32,7 @@ accepted-reply zero e q = (refl, cc)
 accepted-reply (suc k) e q = let z : _≡_ {A = ℕ} 0 1 = cc in absurd (omega arith)
 
 -- no row applies
-abbrev Passed : List Row → Type 0
+abbrev pub Passed : List Row → Type 0
 Passed [] = Unit {0}
 Passed (row ∷ rows) = (row .0 ≡ false) × Passed rows
 
@@ -106,15 +107,25 @@ neither true true e = (refl, refl)
 neither true false e = let z : _≡_ {A = ℕ} 0 1 = cc in absurd (omega arith)
 neither false a e = let z : _≡_ {A = ℕ} 0 1 = cc in absurd (omega arith)
 
-pub checked : (n nodes used root : ℕ) (order c : List ℕ) (r : Reply) → length order ≡ places → Check n order c used root r → Gives r (nodes ∷ [])
-    → (nodes ≡ used) × StandsFor n order (tableOf n c root) c nodes root
+-- so does a diagram that check's rows let pass
+passed-stands : (n used root : ℕ) (order c : List ℕ) → Passed (checkRows n order c used root) → StandsFor n order (tableOf n c root) c used root
 unfolding diagram
-checked n nodes used root order c r l b g =
-    let (z, v) = accepted-reply (refusal (checkRows n order c used root)) b g in
-    let (few, (o, (f, (q, (m, _))))) = passed (checkRows n order c used root) refl z in
+passed-stands n used root order c (few, (o, (f, (q, (m, _))))) =
     let low = le-leb root (used + 1) (ltb-false (used + 1) root m) in
     let (s, a) = neither (sound n order c used) (allReached c used root) (rw low at q) in
-    let nodes-is : nodes ≡ used = cc in (
-      nodes-is,
-      rw nodes-is (stands n order c used root (ltb-false 10 n few) (not-false _ o) (not-false _ f) (and-join s (and-join low a))),
-    )
+    stands n order c used root (ltb-false 10 n few) (not-false _ o) (not-false _ f) (and-join s (and-join low a))
+
+pub checked : (n nodes used root : ℕ) (order c : List ℕ) (r : Reply) → length order ≡ places → Check n order c used root r → Gives r (nodes ∷ [])
+    → (nodes ≡ used) × StandsFor n order (tableOf n c root) c nodes root
+checked n nodes used root order c r l b g =
+    let (z, v) = accepted-reply (refusal (checkRows n order c used root)) b g in
+    let nodes-is : nodes ≡ used = cc in
+    (nodes-is, rw nodes-is (passed-stands n used root order c (passed (checkRows n order c used root) refl z)))
+
+-- the writer's rows begin with check's
+pub written : (n used root k : ℕ) (order c label bytes after : List ℕ) (r : Reply) → length order ≡ places → Writes n order c used root label bytes r after
+    → Gives r (k ∷ []) → StandsFor n order (tableOf n c root) c used root
+written n used root k order c label bytes after r l b g =
+    let (z, v) = accepted-reply (refusal (writeRows n order c used root label bytes)) (b .answer) g in
+    let (few, (o, (f, (q, (m, _))))) = passed (writeRows n order c used root label bytes) refl z in
+    passed-stands n used root order c (few, (o, (f, (q, (m, tt)))))

@@ -11,13 +11,14 @@ use lib.ListN.{length, getD}
 use Rattle.rule.specs.Table.{fitLength, fitRows}
 use Rattle.rule.specs.Level.{size}
 use Rattle.rule.specs.Order.{places, flags, fitOrder, askedBefore}
-use Rattle.rule.specs.Cells.{sound, flagAt, lowAt, highAt}
+use Rattle.rule.specs.Cells.{room, sound, flagAt, lowAt, highAt}
 use Rattle.rule.specs.Diagram.{tableOf, diagram, asking}
 use Rattle.rule.specs.Reduced.{DrawnAs}
-use Rattle.rule.specs.Results.{needed}
+use Rattle.rule.specs.Results.{flagTable, needed}
+use Rattle.rule.specs.Refusals.{joined, chosen, fixed}
 use Rattle.rule.specs.Reply.{Reply, accepted, numberOf, Accepted}
-use Rattle.rule.specs.Calls.{State, Build, Check, Tabulates, Tabulate, Walk, Pack}
-use Rattle.rule.specs.Files.{Reads}
+use Rattle.rule.specs.Calls.{State, Build, Check, Tabulates, Tabulate, Walk, Flag, Join, Choose, Fix, Pack}
+use Rattle.rule.specs.Files.{Reads, Writes}
 use Rattle.rule.specs.History.{Call, Meets, Calls, Opens, BeginsOpen, Book, inBook, enter, bookOf}
 
 -- n flags in a fit order, and a fit table of theirs
@@ -46,6 +47,12 @@ pub record SameRecord (n : ℕ) (c d : List ℕ) (k j : ℕ) : Type 0 where
   pub high : tableOf n d (highAt d j) ≡ tableOf n c (highAt c k)
   pub table : tableOf n d (j + 2) ≡ tableOf n c (k + 2)
 
+-- rule t needs more records than the store's cells c hold: sound cells, however many, that keep the older nodes and hold t use more than that
+abbrev pub NoRoomFor : State → List ℕ → List ℕ → Type 0
+NoRoomFor s c t =
+    (d : List ℕ) (more m : ℕ) → sound (s .n) (s .places) d more ≡ true → s .used ≤ more
+    → ((k : ℕ) → k ≤ s .used + 1 → tableOf (s .n) d k ≡ tableOf (s .n) c k) → m ≤ more + 1 → tableOf (s .n) d m ≡ t → room c < more
+
 pub record Demand2 : Type 0 where
   -- "A diagram built from a table under an order is the reduced ordered diagram of that table as Bryant and Friedman define it."
   pub built : (n nodes root : ℕ) (t order c d : List ℕ) (r : Reply) → length order ≡ places → Build n t order c r d → Gives r (nodes ∷ root ∷ [])
@@ -58,6 +65,9 @@ pub record Demand2 : Type 0 where
   -- and of the reader
   pub read : (n nodes root : ℕ) (order file c d : List ℕ) (r : Reply) → Reads file c r d → Gives r (n ∷ nodes ∷ root ∷ order)
       → StandsFor n order (tableOf n d root) d nodes root
+  -- and of the writer, which takes a diagram too
+  pub written : (n used root k : ℕ) (order c label bytes after : List ℕ) (r : Reply) → length order ≡ places → Writes n order c used root label bytes r after
+      → Gives r (k ∷ []) → StandsFor n order (tableOf n c root) c used root
   -- "In one store two node numbers are equal exactly when their rules agree on every row."
   pub canonical : (n used k m : ℕ) (order c : List ℕ) → n ≤ 10 → length order ≡ places → fitOrder n order ≡ true → sound n order c used ≡ true → k ≤ used + 1
       → m ≤ used + 1 → (tableOf n c k ≡ tableOf n c m) ↔ (k ≡ m)
@@ -73,6 +83,22 @@ pub record Demand2 : Type 0 where
   pub needs : (n : ℕ) (order t : List ℕ) → Fit n order t → (c d : List ℕ) (used more m : ℕ) → sound n order c used ≡ true → sound n order d more ≡ true
       → used ≤ more → ((k : ℕ) → k ≤ used + 1 → tableOf n d k ≡ tableOf n c k) → m ≤ more + 1 → tableOf n d m ≡ t
       → used + needed n order c used t ≤ more
+  -- "When a rule is built, packed or made in a store, "no room" comes only when the result truly needs more records than are free.": where build is refused
+  -- under 10, each diagram of the table in that order has more records than the cells hold
+  pub no-room-built : (n used root : ℕ) (t order c d e : List ℕ) (r : Reply) → length order ≡ places → Build n t order c r d → numberOf r ≡ 10
+      → DrawnAs n order t e used root → room c < used
+  -- where pack is, each diagram of the table in every order has
+  pub no-room-packed : (n used root : ℕ) (t order c w d x e : List ℕ) (r : Reply) → Pack n t c w r d x → numberOf r ≡ 10 → length order ≡ places
+      → fitOrder n order ≡ true → DrawnAs n order t e used root → room c < used
+  -- and where a call is that makes a rule in a store, the older nodes and the rule have together
+  pub no-room-flag : (s s′ : State) (c d : List ℕ) (i : ℕ) (r : Reply) → length (s .places) ≡ places → Flag s c i r s′ d → numberOf r ≡ 10
+      → NoRoomFor s c (flagTable (s .n) i)
+  pub no-room-join : (s s′ : State) (c d : List ℕ) (code f g : ℕ) (r : Reply) → length (s .places) ≡ places → Join s c code f g r s′ d → numberOf r ≡ 10
+      → NoRoomFor s c (joined (s .n) c code f g)
+  pub no-room-choose : (s s′ : State) (c d : List ℕ) (f g h : ℕ) (r : Reply) → length (s .places) ≡ places → Choose s c f g h r s′ d → numberOf r ≡ 10
+      → NoRoomFor s c (chosen (s .n) c f g h)
+  pub no-room-fix : (s s′ : State) (c d : List ℕ) (m i v : ℕ) (r : Reply) → length (s .places) ≡ places → Fix s c m i v r s′ d → numberOf r ≡ 10
+      → NoRoomFor s c (fixed (s .n) c m i v)
 
 -- ---- demand 3
 

@@ -1,0 +1,154 @@
+-- Refusal 10 of build, pack and the calls that make a rule in a store: the result needs more records than are free.
+-- Assumes nothing.
+use mathlib.Core.Path.{_≡_, refl, sym, ap, _∙_}
+use mathlib.Core.Bool.{Bool, true, false, not, _&&_, cond, true≢false}
+use mathlib.Core.List.{List, [], _∷_, _++_, Memᴰ·of-map as of-map}
+use Prim.Native.Nat.{ℕ, zero, suc, _+_, _^_, _<_}
+use native.Mathlib.Omega.{arith}
+use borrow.Author.Tests.{ltb-true, ltb-false, lt-ltb, eq-eqb, not-false}
+use lib.Dec.{eqb, ltb}
+use lib.ListN.{length, getD, length-map}
+use Rattle.rule.specs.Bits.{below}
+use Rattle.rule.specs.Table.{fitLength, fitRows, tabled}
+use Rattle.rule.specs.Level.{size}
+use Rattle.rule.specs.Order.{places, flags, fitOrder, packed}
+use Rattle.rule.specs.Cells.{room, sound}
+use Rattle.rule.specs.Diagram.{tableOf}
+use Rattle.rule.specs.Reduced.{DrawnAs}
+use Rattle.rule.specs.Results.{flagTable, digit, needed, free}
+use Rattle.rule.specs.Refusals.{Row, refusal, flagCount, tableLength, tableRead, orderPlaces, cells, records, node, workspace, flagArgument, operatorArgument, valueArgument, result, buildRows, packRows, joined, chosen, fixed}
+use Rattle.rule.specs.Reply.{Reply, reply, numberOf}
+use Rattle.rule.specs.Calls.{State, Build, Makes, Flag, Join, Choose, Fix, Pack}
+use Rattle.rule.specs.Demands.{Fit, NoRoomFor}
+use Rattle.theory.proofs.Tests.{and-split, in-each}
+use Rattle.theory.proofs.Bits.{length-from, bit-lt}
+use Rattle.theory.proofs.Cofactor.{length-cofactor, row-lt, cofactor-rows}
+use Rattle.theory.proofs.Sound.{sound-view}
+use Rattle.theory.proofs.Walks.{smaller, length-table, fit-table}
+use Rattle.theory.proofs.Orders.{fit-order-is, packed-is}
+use Rattle.demands.proofs.Stands.{Passed}
+use Rattle.demands.proofs.Counts.{counts}
+use Rattle.demands.proofs.Needs.{needs}
+
+-- ---- the number 10
+
+-- no row has the number 10
+abbrev others : List Row → Bool
+others [] = true
+others (row ∷ rows) = not (eqb (row .1) 10) && others rows
+
+-- where a row with the number 10 stands behind such rows and 10 is given, these pass and it applies
+tenth : (rows : List Row) (b : Bool) → others rows ≡ true → refusal (rows ++ ((b, 10) ∷ [])) ≡ 10 → Passed rows × (b ≡ true)
+tenth [] true h e = (tt, refl)
+tenth [] false h e = absurd (omega arith)
+tenth ((true, k) ∷ rows) b h e = absurd (true≢false (sym (and-split (not (eqb k 10)) (others rows) h .0) ∙ ap not (eq-eqb k 10 e)))
+tenth ((false, k) ∷ rows) b h e = let (p, q) = tenth rows b (and-split (not (eqb k 10)) (others rows) h .1) e in ((refl, p), q)
+
+-- a reply has its refusal's number
+ten : (k : ℕ) (values : List ℕ) {r : Reply} → r ≡ reply k values → numberOf r ≡ 10 → k ≡ 10
+ten zero values e q = sym (ap numberOf e) ∙ q
+ten (suc k) values e q = sym (ap numberOf e) ∙ q
+
+-- ---- build and pack
+
+pub no-room-built : (n used root : ℕ) (t order c d e : List ℕ) (r : Reply) → length order ≡ places → Build n t order c r d → numberOf r ≡ 10
+    → DrawnAs n order t e used root → room c < used
+no-room-built n used root t order c d e r l b q x =
+    let z = ten (refusal (buildRows n t order c)) _ (b .answer) q in
+    let ((few, (rows, (bits, (o, _)))), g) =
+    tenth (flagCount n ∷ tableLength n t ∷ tableRead t ∷ orderPlaces n order ∷ cells c ∷ []) (ltb (room c) (size (flags n order) t)) refl z in
+    let f : Fit n order t =
+    record { few = ltb-false 10 n few; kept-in = l; order-fits = not-false _ o; rows = not-false _ rows; bits = not-false _ bits } in
+    omega (arith, counts n order t f e used root x, ltb-true (room c) (size (flags n order) t) g)
+
+pub no-room-packed : (n used root : ℕ) (t order c w d x e : List ℕ) (r : Reply) → Pack n t c w r d x → numberOf r ≡ 10 → length order ≡ places
+    → fitOrder n order ≡ true → DrawnAs n order t e used root → room c < used
+no-room-packed n used root t order c w d x e r b q l o y =
+    let z = ten (refusal (packRows n t c w)) _ (b .answer) q in
+    let ((few, (rows, (bits, _))), g) =
+    tenth (flagCount n ∷ tableLength n t ∷ tableRead t ∷ cells c ∷ workspace n w ∷ []) (ltb (room c) (size (packed n t) t)) refl z in
+    let f : Fit n order t =
+    record { few = ltb-false 10 n few; kept-in = l; order-fits = o; rows = not-false _ rows; bits = not-false _ bits } in
+    omega (
+      arith,
+      counts n order t f e used root y,
+      packed-is n t .fewest (flags n order) (fit-order-is n order o),
+      ltb-true (room c) (size (packed n t) t) g,
+    )
+
+-- ---- a rule made in a store
+
+-- a table as a call makes it: 2^n rows of 0 and 1
+abbrev Made : ℕ → List ℕ → Type 0
+Made n t = (length t ≡ 2 ^ n) × (fitRows t ≡ true)
+
+-- the rows that a call tests before it makes a rule, with those of its own arguments
+abbrev rowsBefore : State → List ℕ → List Row → List Row
+rowsBefore s c own = flagCount (s .n) ∷ orderPlaces (s .n) (s .places) ∷ cells c ∷ records (s .n) (s .places) c (s .used) ∷ own
+
+-- and then whether there is room for it
+abbrev makingRows : State → List ℕ → List ℕ → List Row → List Row
+makingRows s c t own = rowsBefore s c own ++ (result (needed (s .n) (s .places) c (s .used) t) (free c (s .used)) ∷ [])
+
+no-room-made : (s s′ : State) (c t d : List ℕ) (own : List Row) (r : Reply) → others own ≡ true → length (s .places) ≡ places
+    → Makes (refusal (makingRows s c t own)) s c t r s′ d → numberOf r ≡ 10
+    → (sound (s .n) (s .places) c (s .used) ≡ true → Passed own → Made (s .n) t) → NoRoomFor s c t
+unfolding fitLength
+no-room-made s s′ c t d own r other l b q made e more m sound-e le kept hm is-t =
+    let have = free c (s .used) in
+    let need = needed (s .n) (s .places) c (s .used) t in
+    let z = ten (refusal (makingRows s c t own)) _ (b .answer) q in
+    let ((few, (o, (_, (x, p)))), g) = tenth (rowsBefore s c own) (ltb have need) other z in
+    let sound-c = not-false _ x in
+    let (rows, bits) = made sound-c p in
+    let f : Fit (s .n) (s .places) t =
+    record { few = ltb-false 10 (s .n) few; kept-in = l; order-fits = not-false _ o; rows = eq-eqb (length t) (2 ^ s .n) rows; bits = bits } in
+    omega (arith, needs (s .n) (s .places) t f c e (s .used) more m sound-c sound-e le kept hm is-t, ltb-true have need g)
+
+-- tables by their rows
+tabled-made : (n : ℕ) (f : ℕ → ℕ) → ((r : ℕ) → f r < 2) → Made n (tabled n f)
+unfolding fitRows
+tabled-made n f h =
+    (length-map (below (2 ^ n)) f ∙ length-from 0 (2 ^ n), in-each _ _ (λ x i. let (r, j, e) = of-map f (below (2 ^ n)) i in lt-ltb x 2 (omega (arith, h r))))
+
+digit-lt : (code a b : ℕ) → digit code a b < 2
+digit-lt code a b = omega arith
+
+cond-lt : (x : Bool) (a b : ℕ) → a < 2 → b < 2 → cond x a b < 2
+cond-lt true a b p q = p
+cond-lt false a b p q = q
+
+-- each row of the table of a store's node is below 2
+node-rows : (s : State) (c : List ℕ) (m : ℕ) → sound (s .n) (s .places) c (s .used) ≡ true → ltb (s .used + 1) m ≡ false → fitRows (tableOf (s .n) c m) ≡ true
+node-rows s c m x h = fit-table (smaller (sound-view (s .n) (s .places) c (s .used) x)) (s .n) m (ltb-false (s .used + 1) m h)
+
+pub no-room-flag : (s s′ : State) (c d : List ℕ) (i : ℕ) (r : Reply) → length (s .places) ≡ places → Flag s c i r s′ d → numberOf r ≡ 10
+    → NoRoomFor s c (flagTable (s .n) i)
+no-room-flag s s′ c d i r l b q =
+    no-room-made s s′ c (flagTable (s .n) i) d (flagArgument (s .n) i ∷ []) r refl l b q (λ x p. tabled-made (s .n) _ (λ r. bit-lt r i))
+
+pub no-room-join : (s s′ : State) (c d : List ℕ) (code f g : ℕ) (r : Reply) → length (s .places) ≡ places → Join s c code f g r s′ d → numberOf r ≡ 10
+    → NoRoomFor s c (joined (s .n) c code f g)
+no-room-join s s′ c d code f g r l b q =
+    no-room-made s s′ c (joined (s .n) c code f g) d (node (s .used) f ∷ node (s .used) g ∷ operatorArgument code ∷ []) r refl l b q
+    (λ x p. tabled-made (s .n) _ (λ r. digit-lt code (getD (tableOf (s .n) c f) r 0) (getD (tableOf (s .n) c g) r 0)))
+
+pub no-room-choose : (s s′ : State) (c d : List ℕ) (f g h : ℕ) (r : Reply) → length (s .places) ≡ places → Choose s c f g h r s′ d → numberOf r ≡ 10
+    → NoRoomFor s c (chosen (s .n) c f g h)
+no-room-choose s s′ c d f g h r l b q =
+    no-room-made s s′ c (chosen (s .n) c f g h) d (node (s .used) f ∷ node (s .used) g ∷ node (s .used) h ∷ []) r refl l b q
+    (λ x p.
+    let (_, (pg, (ph, _))) = p in
+    tabled-made (s .n) _ (λ r.
+    cond-lt (eqb (getD (tableOf (s .n) c f) r 0) 1) (getD (tableOf (s .n) c g) r 0) (getD (tableOf (s .n) c h) r 0)
+    (row-lt (tableOf (s .n) c g) (node-rows s c g x pg) r)
+    (row-lt (tableOf (s .n) c h) (node-rows s c h x ph) r)))
+
+pub no-room-fix : (s s′ : State) (c d : List ℕ) (m i v : ℕ) (r : Reply) → length (s .places) ≡ places → Fix s c m i v r s′ d → numberOf r ≡ 10
+    → NoRoomFor s c (fixed (s .n) c m i v)
+no-room-fix s s′ c d m i v r l b q =
+    no-room-made s s′ c (fixed (s .n) c m i v) d (node (s .used) m ∷ flagArgument (s .n) i ∷ valueArgument v ∷ []) r refl l b q
+    (λ x p. (
+      length-cofactor i v (tableOf (s .n) c m) ∙ length-table (s .n) c m,
+      cofactor-rows i v (tableOf (s .n) c m) (node-rows s c m x (p .0)),
+    ))
