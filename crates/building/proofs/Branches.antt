@@ -32,7 +32,7 @@ use Rattle.theory.proofs.Growth.{Grows, grows-none, grows-more, older, older-le
 use Rattle.unique.specs.declared.Grown.{Grown}
 use Rattle.unique.specs.declared.Found.{Found}
 use Rattle.unique.specs.declared.Found.the-variants.{At, Full}
-use Rattle.unique.specs.Node.{Makes, grown}
+use Rattle.unique.specs.Node.{MakesNode, grown}
 use Rattle.unique.specs.Search.{FoundAs}
 use Rattle.unique.proofs.Search.{Branch, made}
 use Rattle.building.specs.Draw.{Drawing, Draw}
@@ -174,7 +174,7 @@ module _ {n at row used : ℕ} {t order c : List ℕ} (g : Drawing n t order at 
               absurd (d′ (canonical (b .grows .is-sound) ord low high (branches .low-old) (branches .high-old)
               (low-table ∙ depends-false (getD order at 0) (restrict (take at (flags n order)) row t) q ∙ sym high-table)))
 
-      pub joined : {r : Grown} {f : List ℕ} → Makes e most (getD order at 0) low high r f → Draw n t order at row c used r f
+      pub joined : {r : Grown} {f : List ℕ} → MakesNode e most (getD order at 0) low high r f → Draw n t order at row c used r f
       joined {r} {f} m =
           let x = made (b .grows .is-sound) ord branches (nodesOf (flags n order) t) calls m in
           record {
@@ -199,7 +199,7 @@ module _ {n at row used : ℕ} {t order c : List ℕ} (g : Drawing n t order at 
     module _ {low high : ℕ} {p q : Grown} {d e : List ℕ} (x y : ℕ) (x-is : x ≡ setBit row (getD order at 0) 0) (y-is : y ≡ setBit row (getD order at 0) 1)
         (at-low : p .found ≡ At low) (at-high : q .found ≡ At high)
         (a : Draw n t order (at + 1) x c used p d) (b : Draw n t order (at + 1) y d (p .used) q e) where
-      pub third : {r : Grown} {f : List ℕ} → Makes e (q .used) (getD order at 0) low high r f → Draw n t order at row c used r f
+      pub third : {r : Grown} {f : List ℕ} → MakesNode e (q .used) (getD order at 0) low high r f → Draw n t order at row c used r f
       third m = joined (found x 0 x-is at-low a) (found y 1 y-is at-high b) m
         where
           found : (z k : ℕ) → z ≡ setBit row (getD order at 0) k → {o : Grown} {i j : List ℕ} {u w : ℕ} → o .found ≡ At w

@@ -27,7 +27,7 @@ use Rattle.theory.proofs.Growth.{grows-none}
 use Rattle.unique.specs.declared.Grown.{Grown}
 use Rattle.unique.specs.declared.Found.{Found}
 use Rattle.unique.specs.declared.Found.the-variants.{At, Full}
-use Rattle.unique.specs.Node.{Is, None, Makes, child, old, new, full}
+use Rattle.unique.specs.Node.{Is, None, MakesNode, child, old, new, full}
 use Rattle.building.specs.Draw.{Drawing, Draw}
 use Rattle.building.specs.Fill.{Fits}
 use Rattle.building.proofs.Branches.{cells, leaf, first, second, third, no-room}
@@ -113,7 +113,7 @@ search-records c flag low high (suc k) =
           ]
     ]
 
-makes : (c : List ℕ) (used flag low high : ℕ) → used ≤ room c → (r : Grown) × (d : List ℕ) × Makes c used flag low high r d
+makes : (c : List ℕ) (used flag low high : ℕ) → used ≤ room c → (r : Grown) × (d : List ℕ) × MakesNode c used flag low high r d
 makes c used flag low high h =
     elim (ℕ-discrete low high) [
       | yes e ↦ (_, _, child e)

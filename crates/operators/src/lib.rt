@@ -1,7 +1,7 @@
 // The sixteen operators of two rules by their codes (document 01, "The store"; document 002, the column Table): what a join answers at two end nodes.
 ghost use mathlib.Core.Path.{_≡_};
 ghost use Prim.Native.Nat.{_<_};
-ghost use Rattle.operators.specs.Answer.{answer};
+ghost use Rattle.operators.specs.Answer.{digitReply, answer};
 
 pub enum Digit {
     Node(u16),
@@ -11,7 +11,7 @@ pub enum Digit {
 // The end node that the operator of a code answers for two end nodes. Codes from 16 on are refused.
 pub fn operate(code: u8, first: u16, second: u16) -> Digit
     requires { ⌜ (first < 2) × (second < 2) ⌝ }
-    ensures { λ r. ⌜ r ≡ answer code first second ⌝ }
+    ensures { λ r. ⌜ digitReply r ≡ answer code first second ⌝ }
 {
     match code {
         0 => Digit::Node(0),

@@ -1,7 +1,7 @@
 -- Records in lent cells, and sound cells (document 01, "Tables, orders, nodes").
 -- Assumes nothing.
 use mathlib.Core.Bool.{Bool, not, _&&_, _||_}
-use mathlib.Core.List.{List}
+use mathlib.Core.List.{List, [], _∷_}
 use Prim.Native.Nat.{ℕ, _+_, _-_, _*_, _/_, _%_}
 use lib.Dec.{eqb, leb, ltb}
 use lib.ListN.{length, getD, drop}
@@ -34,6 +34,10 @@ lowAt c k = getD c (k * width + 1) 0
 
 unfoldable pub highAt : List ℕ → ℕ → ℕ
 highAt c k = getD c (k * width + 2) 0
+
+-- a record's cells
+abbrev pub inCells : ℕ → ℕ → ℕ → List ℕ
+inCells flag low high = flag ∷ low ∷ high ∷ []
 
 -- the record of a node from 2 on
 abbrev pub recordOf : ℕ → ℕ

@@ -11,6 +11,7 @@ use Rattle.rule.specs.Tests.{each, same}
 use Rattle.rule.specs.Level.{size}
 use Rattle.rule.specs.Order.{rising, orders, packed}
 use Rattle.rule.specs.Results.{rootBy}
+use Rattle.rule.specs.Cells.{width}
 use Rattle.rule.specs.Files.{reading, readNumber, readValues}
 use Rattle.rule.specs.Listing.{text, flagsOf, rowsOf, askingPacked, listing}
 
@@ -41,7 +42,7 @@ pub data Example : Type 0 where
 
 -- the cells that a file's records are read into
 abbrev pub lentCells : List ℕ
-lentCells = replicate 3 0
+lentCells = replicate width 0
 
 unfoldable pub holds : Example → Bool
 holds (nodes t k) = eqb (size (packedOf t) (digits t)) k

@@ -9,7 +9,7 @@ use lib.ListN.{length, getD, take, drop, replicate}
 use Rattle.rule.specs.Bits.{bit}
 use Rattle.rule.specs.Tests.{each}
 use Rattle.rule.specs.Order.{flags, fitOrder, inPlaces, rising}
-use Rattle.rule.specs.Cells.{room, flagAt, lowAt, highAt, fitCells}
+use Rattle.rule.specs.Cells.{room, flagAt, lowAt, highAt, inCells, fitCells}
 use Rattle.rule.specs.Diagram.{diagram}
 use Rattle.rule.specs.Refusals.{Row, refusal, flagCount, orderPlaces, cells, diagramRecords, node}
 use Rattle.rule.specs.Reply.{Reply, reply, leaves}
@@ -90,7 +90,7 @@ readLabel x =
 -- the cells of the first k records of these bytes: "five bytes each: flag, low (two), high (two), low byte first"
 unfoldable pub recordCells : ℕ → List ℕ → List ℕ
 recordCells zero bytes = []
-recordCells (suc k) bytes = getD bytes 0 0 ∷ twoAt bytes 1 ∷ twoAt bytes 3 ∷ recordCells k (drop 5 bytes)
+recordCells (suc k) bytes = inCells (getD bytes 0 0) (twoAt bytes 1) (twoAt bytes 3) ++ recordCells k (drop 5 bytes)
 
 -- "Bit 3: record count, two bytes, low byte first, at least 1; then five bytes each". The count is a field of its own: "6 for 0, then 10, the records
 -- needed being that count", of those that the lent cells have room for.

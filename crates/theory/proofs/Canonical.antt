@@ -20,7 +20,7 @@ use Rattle.theory.proofs.Cofactor.{length-cofactor, cofactor-row, depen
 use Rattle.theory.proofs.Sets.{Order, full-lt}
 use Rattle.theory.proofs.Sound.{Sound}
 use Rattle.theory.proofs.Levels.{level-lt, level-one}
-use Rattle.theory.proofs.Walks.{node, smaller, nodes, son, son-is, step-son, step-is, walk-end, walk-record, length-table, table-row, rows-eq}
+use Rattle.theory.proofs.Walks.{node, smaller, nodes, childAt, child-is, step-child, step-is, walk-end, walk-record, length-table, table-row, rows-eq}
 
 -- ---- two tables joined by a flag
 
@@ -84,9 +84,9 @@ module _ {n used : ℕ} {order c : List ℕ} (s : Sound n order c used) (o : Ord
       ]
 
   -- a child stands at a later level
-  pub son-later : (k b : ℕ) → k < used → level (flags n order) (flagAt c k) < levelOf n order c (son c k b)
-  son-later k b h =
-      son-is c k b (λ (m : ℕ). level (flags n order) (flagAt c k) < levelOf n order c m)
+  pub child-later : (k b : ℕ) → k < used → level (flags n order) (flagAt c k) < levelOf n order c (childAt c k b)
+  child-later k b h =
+      child-is c k b (λ (m : ℕ). level (flags n order) (flagAt c k) < levelOf n order c m)
       (later (lowAt c k) (s .low-later k h))
       (later (highAt c k) (s .high-later k h))
     where
@@ -100,9 +100,9 @@ module _ {n used : ℕ} {order c : List ℕ} (s : Sound n order c used) (o : Ord
                 rw (e, level-record n order c j) (rw q at (f (omega arith)))
           ]
 
-  pub son-le : (k b : ℕ) → k < used → son c k b ≤ used + 1
-  son-le k b h =
-      son-is c k b (λ (m : ℕ). m ≤ used + 1) (omega (arith, s .low-smaller k h)) (omega (arith, s .high-smaller k h))
+  pub child-le : (k b : ℕ) → k < used → childAt c k b ≤ used + 1
+  child-le k b h =
+      child-is c k b (λ (m : ℕ). m ≤ used + 1) (omega (arith, s .low-smaller k h)) (omega (arith, s .high-smaller k h))
 
   -- ---- a node ignores the flags that are asked before its own
 
@@ -116,10 +116,10 @@ module _ {n used : ℕ} {order c : List ℕ} (s : Sound n order c used) (o : Ord
       let d : v ≢ flagAt c k = λ e. omega (arith, ap (level (flags n order)) e) in
       walk-record (smaller s) k (setBit row v b) l
       ∙ ap (λ (m : ℕ). walk c m (setBit row v b))
-      (step-son c k (setBit row v b) ∙ ap (son c k) (bit-other row v (flagAt c k) b hb d) ∙ sym (step-son c k row))
+      (step-child c k (setBit row v b) ∙ ap (childAt c k) (bit-other row v (flagAt c k) b hb d) ∙ sym (step-child c k row))
       ∙ step-is c k row (λ (m : ℕ). walk c m (setBit row v b) ≡ walk c m row)
-      (x (omega (arith, son-later k 0 l)))
-      (y (omega (arith, son-later k 1 l)))
+      (x (omega (arith, child-later k 0 l)))
+      (y (omega (arith, child-later k 1 l)))
       ∙ sym (walk-record (smaller s) k row l))
 
   -- the rows of a node's cofactor
@@ -139,19 +139,19 @@ module _ {n used : ℕ} {order c : List ℕ} (s : Sound n order c used) (o : Ord
 
   -- ---- a record's cofactors by its own flag are its children
 
-  pub record-son : (k b : ℕ) → k < used → b < 2 → cofactor (flagAt c k) b (tableOf n c (k + 2)) ≡ tableOf n c (son c k b)
-  record-son k b h hb =
-      cofactor-is (flagAt c k) b (k + 2) (son c k b) (s .flag k h) hb
+  pub record-child : (k b : ℕ) → k < used → b < 2 → cofactor (flagAt c k) b (tableOf n c (k + 2)) ≡ tableOf n c (childAt c k b)
+  record-child k b h hb =
+      cofactor-is (flagAt c k) b (k + 2) (childAt c k b) (s .flag k h) hb
       (λ r.
       walk-record (smaller s) k (setBit r (flagAt c k) b) h
-      ∙ ap (λ (m : ℕ). walk c m (setBit r (flagAt c k) b)) (step-son c k (setBit r (flagAt c k) b) ∙ ap (son c k) (bit-same r (flagAt c k) b hb))
-      ∙ walk-ignores (flagAt c k) b r hb (son c k b) (son-le k b h) (son-later k b h))
+      ∙ ap (λ (m : ℕ). walk c m (setBit r (flagAt c k) b)) (step-child c k (setBit r (flagAt c k) b) ∙ ap (childAt c k) (bit-same r (flagAt c k) b hb))
+      ∙ walk-ignores (flagAt c k) b r hb (childAt c k b) (child-le k b h) (child-later k b h))
 
   pub record-low : (k : ℕ) → k < used → cofactor (flagAt c k) 0 (tableOf n c (k + 2)) ≡ tableOf n c (lowAt c k)
-  record-low k h = record-son k 0 h (omega arith)
+  record-low k h = record-child k 0 h (omega arith)
 
   pub record-high : (k : ℕ) → k < used → cofactor (flagAt c k) 1 (tableOf n c (k + 2)) ≡ tableOf n c (highAt c k)
-  record-high k h = record-son k 1 h (omega arith)
+  record-high k h = record-child k 1 h (omega arith)
 
   -- a record's table is joined from its children's
   pub table-mix : (k : ℕ) → k < used → tableOf n c (k + 2) ≡ mix (flagAt c k) (tableOf n c (lowAt c k)) (tableOf n c (highAt c k))
@@ -174,9 +174,9 @@ module _ {n used : ℕ} {order c : List ℕ} (s : Sound n order c used) (o : Ord
       record-over k q =
           let h : k < used = omega arith in
           let f : level (flags n order) (flagAt c k) < levelOf n order c p = omega (arith, level-record n order c k, ap (levelOf n order c) q) in
-          let child : (b : ℕ) → b < 2 → tableOf n c (son c k b) ≡ tableOf n c p =
+          let child : (b : ℕ) → b < 2 → tableOf n c (childAt c k b) ≡ tableOf n c p =
           λ b hb.
-          sym (record-son k b h hb) ∙ ap (λ (x : ℕ). cofactor (flagAt c k) b (tableOf n c x)) (sym q)
+          sym (record-child k b h hb) ∙ ap (λ (x : ℕ). cofactor (flagAt c k) b (tableOf n c x)) (sym q)
           ∙ ap (cofactor (flagAt c k) b) e ∙ ignores (flagAt c k) b p hp (s .flag k h) f hb in
           s .differ k h
           (ih (lowAt c k) (omega (arith, s .low-smaller k h)) (child 0 (omega arith))
@@ -193,8 +193,8 @@ module _ {n used : ℕ} {order c : List ℕ} (s : Sound n order c used) (o : Ord
       → tableOf n c (j + 2) ≡ tableOf n c (k + 2) → ((q r : ℕ) → q < j + 2 → r < k + 2 → tableOf n c q ≡ tableOf n c r → q ≡ r) → j ≡ k
   beside j k hj hk l e ih =
       let f : flagAt c j ≡ flagAt c k = level-one o (flagAt c j) (flagAt c k) (s .flag j hj) (s .flag k hk) l in
-      let child : (b : ℕ) → b < 2 → tableOf n c (son c j b) ≡ tableOf n c (son c k b) =
-      λ b hb. sym (record-son j b hj hb) ∙ ap₂ (λ (v : ℕ) (t : List ℕ). cofactor v b t) f e ∙ record-son k b hk hb in
+      let child : (b : ℕ) → b < 2 → tableOf n c (childAt c j b) ≡ tableOf n c (childAt c k b) =
+      λ b hb. sym (record-child j b hj hb) ∙ ap₂ (λ (v : ℕ) (t : List ℕ). cofactor v b t) f e ∙ record-child k b hk hb in
       s .once j k hj hk f
       (ih (lowAt c j) (lowAt c k) (s .low-smaller j hj) (s .low-smaller k hk) (child 0 (omega arith)))
       (ih (highAt c j) (highAt c k) (s .high-smaller j hj) (s .high-smaller k hk) (child 1 (omega arith)))
@@ -240,7 +240,7 @@ module _ {n used : ℕ} {order c : List ℕ} (s : Sound n order c used) (o : Ord
       go false e =
           absurd
           (s .differ k h
-          (canonical (lowAt c k) (highAt c k) (son-le k 0 h) (son-le k 1 h)
+          (canonical (lowAt c k) (highAt c k) (child-le k 0 h) (child-le k 1 h)
           (sym (record-low k h) ∙ depends-false (flagAt c k) (tableOf n c (k + 2)) e ∙ record-high k h)))
 
   -- of the flags up to a node's level its table depends on its own alone

@@ -18,13 +18,13 @@ use Rattle.rule.specs.Diagram.{reach, tableOf}
 use Rattle.theory.proofs.Sets.{Order}
 use Rattle.theory.proofs.Sound.{Sound}
 use Rattle.theory.proofs.Levels.{Turn, level-lt, level-one}
-use Rattle.theory.proofs.Walks.{node, smaller, son}
+use Rattle.theory.proofs.Walks.{node, smaller, childAt}
 use Rattle.theory.proofs.Reach.{reach-self, reach-split, reach-from, reach-cases, reach-trans}
-use Rattle.theory.proofs.Canonical.{levelOf, level-end, level-record, son-later, son-le, ignores, record-son}
+use Rattle.theory.proofs.Canonical.{levelOf, level-end, level-record, child-later, child-le, ignores, record-child}
 
 -- where flag v is b: the child of a record that asks v; another node stays
 unfoldable pub child : List ℕ → ℕ → ℕ → ℕ → ℕ
-child c v b m = cond (isEnd m) m (cond (eqb (flagAt c (recordOf m)) v) (son c (recordOf m) b) m)
+child c v b m = cond (isEnd m) m (cond (eqb (flagAt c (recordOf m)) v) (childAt c (recordOf m) b) m)
 
 -- the nodes that m comes to where the flags vs are fixed in all ways
 unfoldable pub descents : List ℕ → List ℕ → ℕ → List ℕ
@@ -47,7 +47,7 @@ child-end : (c : List ℕ) (v b m : ℕ) → m < 2 → child c v b m ≡ m
 unfolding child
 child-end c v b m h = rw (lt-ltb m 2 h)
 
-child-record : (c : List ℕ) (v b k : ℕ) → child c v b (k + 2) ≡ cond (eqb (flagAt c k) v) (son c k b) (k + 2)
+child-record : (c : List ℕ) (v b k : ℕ) → child c v b (k + 2) ≡ cond (eqb (flagAt c k) v) (childAt c k b) (k + 2)
 unfolding child
 child-record c v b k =
     let e : k + 2 - 2 ≡ k = omega arith in
@@ -59,7 +59,7 @@ module _ {n used : ℕ} {order c : List ℕ} (s : Sound n order c used) (o : Ord
   -- a node whose level is not before that of v asks a later flag and stays, or asks v
   child-cases : (v m : ℕ) → m ≤ used + 1 → v < n → level (flags n order) v ≤ levelOf n order c m
       → ((level (flags n order) v < levelOf n order c m) × ((b : ℕ) → child c v b m ≡ m))
-      ⊎ ((k : ℕ) × (k < used) × (m ≡ k + 2) × (flagAt c k ≡ v) × ((b : ℕ) → child c v b m ≡ son c k b))
+      ⊎ ((k : ℕ) × (k < used) × (m ≡ k + 2) × (flagAt c k ≡ v) × ((b : ℕ) → child c v b m ≡ childAt c k b))
   child-cases v m h hv l =
       elim (node m) [
         | inl e ↦ inl (omega (arith, level-end n order c m e, level-lt o v hv), λ b. child-end c v b m e)
@@ -93,10 +93,10 @@ module _ {n used : ℕ} {order c : List ℕ} (s : Sound n order c used) (o : Ord
         | inr (k, u, x, f, e) ↦
             rw (e b, x, ← f)
             (record {
-              le = son-le s o k b u;
-              later = son-later s o k b u;
-              table = record-son s o k b u hb;
-              reached = reach-from (smaller s) k b (son c k b) u (reach-self c (son c k b));
+              le = child-le s o k b u;
+              later = child-later s o k b u;
+              table = record-child s o k b u hb;
+              reached = reach-from (smaller s) k b (childAt c k b) u (reach-self c (childAt c k b));
             })
       ]
 
@@ -132,7 +132,7 @@ module _ {n used : ℕ} {order c : List ℕ} (s : Sound n order c used) (o : Ord
       reach-cases (smaller s) p (λ (m : ℕ). (m ≡ p) ⊎ (levelOf n order c m < levelOf n order c p)) (inl refl)
       (λ k b h r i.
       let e = level-record n order c k in
-      let l = son-later s o k b h in
+      let l = child-later s o k b h in
       inr (elim i [ inl q ↦ omega (arith, ap (levelOf n order c) q) | inr q ↦ omega arith ]))
 
   -- a node of a later level than v is still reached where v is fixed to some b

@@ -14,7 +14,7 @@ use Rattle.rule.specs.Cells.{lowAt, highAt, recordOf, sound}
 use Rattle.rule.specs.Diagram.{reachIn, reach, allReached, diagram}
 use Rattle.theory.proofs.Tests.{and-split, and-join, each-below, below-each}
 use Rattle.theory.proofs.Sound.{Sound, sound-view, view-sound}
-use Rattle.theory.proofs.Walks.{node, Smaller, nodes, son, son-is}
+use Rattle.theory.proofs.Walks.{node, Smaller, nodes, childAt, child-is}
 
 -- ---- reach, node by node
 
@@ -91,14 +91,14 @@ module _ {c : List ℕ} {used : ℕ} (s : Smaller c used) where
         | inr q ↦ inr (or-cases (reach c (lowAt c k) m) _ q)
       ]
 
-  pub reach-from : (k b m : ℕ) → k < used → reach c (son c k b) m ≡ true → reach c (k + 2) m ≡ true
+  pub reach-from : (k b m : ℕ) → k < used → reach c (childAt c k b) m ≡ true → reach c (k + 2) m ≡ true
   reach-from k b m h =
-      son-is c k b (λ (x : ℕ). reach c x m ≡ true → reach c (k + 2) m ≡ true)
+      child-is c k b (λ (x : ℕ). reach c x m ≡ true → reach c (k + 2) m ≡ true)
       (λ e. reach-children s m k h ∙ rw e (or-true (eqb (k + 2) m)))
       (λ e. reach-children s m k h ∙ rw e (ap (λ (b : Bool). eqb (k + 2) m || b) (or-true (reach c (lowAt c k) m)) ∙ or-true (eqb (k + 2) m)))
 
   -- what holds of m, and of a record if it holds of a child from which m is reached, holds of each node from which m is reached
-  pub reach-cases : (m : ℕ) (P : ℕ → Type 0) → P m → ((k b : ℕ) → k < used → reach c (son c k b) m ≡ true → P (son c k b) → P (k + 2))
+  pub reach-cases : (m : ℕ) (P : ℕ → Type 0) → P m → ((k b : ℕ) → k < used → reach c (childAt c k b) m ≡ true → P (childAt c k b) → P (k + 2))
       → (top : ℕ) → top ≤ used + 1 → reach c top m ≡ true → P top
   reach-cases m P x f =
       nodes s (λ (top : ℕ). reach c top m ≡ true → P top)
@@ -114,14 +114,14 @@ module _ {c : List ℕ} {used : ℕ} (s : Smaller c used) where
       reach-cases m (λ (x : ℕ). reach c x p ≡ true) q (λ k b l r i. reach-from k b p l i) top h e
 
   -- with a record its children are reached
-  pub reach-down : (top k b : ℕ) → top ≤ used + 1 → k < used → reach c top (k + 2) ≡ true → reach c top (son c k b) ≡ true
-  reach-down top k b h l e = reach-trans top (k + 2) (son c k b) h e (reach-from k b (son c k b) l (reach-self c (son c k b)))
+  pub reach-down : (top k b : ℕ) → top ≤ used + 1 → k < used → reach c top (k + 2) ≡ true → reach c top (childAt c k b) ≡ true
+  reach-down top k b h l e = reach-trans top (k + 2) (childAt c k b) h e (reach-from k b (childAt c k b) l (reach-self c (childAt c k b)))
 
   -- what is reached is no larger
   pub reach-le : (top m : ℕ) → top ≤ used + 1 → reach c top m ≡ true → m ≤ top
   reach-le top m h e =
       reach-cases m (λ (x : ℕ). m ≤ x) (le-refl m)
-      (λ k b l r i. omega (arith, son-is c k b (λ (x : ℕ). x < k + 2) (s .low k l) (s .high k l))) top h e
+      (λ k b l r i. omega (arith, child-is c k b (λ (x : ℕ). x < k + 2) (s .low k l) (s .high k l))) top h e
 
   -- what is reached from another node is a child of a record that is reached
   pub reach-parent : (top m : ℕ) → top ≤ used + 1 → reach c top m ≡ true → top ≢ m
@@ -131,8 +131,8 @@ module _ {c : List ℕ} {used : ℕ} (s : Smaller c used) where
       (λ (x : ℕ). x ≢ m → (j : ℕ) × (j < used) × (reach c x (j + 2) ≡ true) × ((lowAt c j ≡ m) ⊎ (highAt c j ≡ m)))
       (λ d. absurd (d refl))
       (λ k b l r i d.
-      elim (ℕ-discrete (son c k b) m) [
-        | yes q ↦ (k, l, reach-self c (k + 2), son-is c k b (λ (x : ℕ). x ≡ m → (lowAt c k ≡ m) ⊎ (highAt c k ≡ m)) inl inr q)
+      elim (ℕ-discrete (childAt c k b) m) [
+        | yes q ↦ (k, l, reach-self c (k + 2), child-is c k b (λ (x : ℕ). x ≡ m → (lowAt c k ≡ m) ⊎ (highAt c k ≡ m)) inl inr q)
         | no q ↦ let (j, hj, rj, p) = i q in (j, hj, reach-from k b (j + 2) l rj, p)
       ]) top h e
 

@@ -55,24 +55,24 @@ module _ {c : List ℕ} {used : ℕ} (s : Smaller c used) where
 -- ---- walks
 
 -- the child of record k where its flag is b
-abbrev pub son : List ℕ → ℕ → ℕ → ℕ
-son c k b = cond (eqb b 0) (lowAt c k) (highAt c k)
+abbrev pub childAt : List ℕ → ℕ → ℕ → ℕ
+childAt c k b = cond (eqb b 0) (lowAt c k) (highAt c k)
 
-pub son-is : (c : List ℕ) (k b : ℕ) (P : ℕ → Type 0) → P (lowAt c k) → P (highAt c k) → P (son c k b)
-son-is c k b P x y = go (eqb b 0)
+pub child-is : (c : List ℕ) (k b : ℕ) (P : ℕ → Type 0) → P (lowAt c k) → P (highAt c k) → P (childAt c k b)
+child-is c k b P x y = go (eqb b 0)
   where
     go : (e : Bool) → P (cond e (lowAt c k) (highAt c k))
     go true = x
     go false = y
 
 -- one step of a walk comes to the child of the row
-pub step-son : (c : List ℕ) (k row : ℕ) → step c k row ≡ son c k (bit row (flagAt c k))
+pub step-child : (c : List ℕ) (k row : ℕ) → step c k row ≡ childAt c k (bit row (flagAt c k))
 unfolding step
-step-son c k row = refl
+step-child c k row = refl
 
 pub step-is : (c : List ℕ) (k row : ℕ) (P : ℕ → Type 0) → P (lowAt c k) → P (highAt c k) → P (step c k row)
 unfolding step
-step-is c k row P x y = son-is c k (bit row (flagAt c k)) P x y
+step-is c k row P x y = child-is c k (bit row (flagAt c k)) P x y
 
 module _ (c : List ℕ) (row : ℕ) where
   walk-stop : (a m : ℕ) → m < 2 → walkIn a c m row ≡ m

@@ -63,13 +63,13 @@ module _ {n used v low high : ℕ} {order c d : List ℕ} (s : Sound n order c u
   apart j h a b e =
       p .new j h (record { flag-is = sym (old-flag j h) ∙ a; low-is = sym (old-low j h) ∙ b; high-is = sym (old-high j h) ∙ e })
 
-  later : (son : ℕ → ℕ) → ((k : ℕ) → k < used → son k ≤ used + 1) → son used ≤ used + 1
-      → ((k : ℕ) → k < used → 2 ≤ son k → level (flags n order) (flagAt c k) < levelOf n order c (son k)) → level (flags n order) v < levelOf n order c (son used)
-      → (k : ℕ) → k < used + 1 → 2 ≤ son k → level (flags n order) (flagAt d k) < level (flags n order) (flagAt d (recordOf (son k)))
-  later son small last f g =
-      each-record (λ (k : ℕ). 2 ≤ son k → level (flags n order) (flagAt d k) < level (flags n order) (flagAt d (recordOf (son k))))
-      (λ k h t. rw (old-flag k h, old-level (son k) (small k h) t) (f k h t))
-      (λ t. rw (x .flag-is, old-level (son used) last t) g)
+  later : (child : ℕ → ℕ) → ((k : ℕ) → k < used → child k ≤ used + 1) → child used ≤ used + 1
+      → ((k : ℕ) → k < used → 2 ≤ child k → level (flags n order) (flagAt c k) < levelOf n order c (child k)) → level (flags n order) v < levelOf n order c (child used)
+      → (k : ℕ) → k < used + 1 → 2 ≤ child k → level (flags n order) (flagAt d k) < level (flags n order) (flagAt d (recordOf (child k)))
+  later child small last f g =
+      each-record (λ (k : ℕ). 2 ≤ child k → level (flags n order) (flagAt d k) < level (flags n order) (flagAt d (recordOf (child k))))
+      (λ k h t. rw (old-flag k h, old-level (child k) (small k h) t) (f k h t))
+      (λ t. rw (x .flag-is, old-level (child used) last t) g)
 
   once : (j k : ℕ) → j < used + 1 → k < used + 1 → flagAt d j ≡ flagAt d k → lowAt d j ≡ lowAt d k → highAt d j ≡ highAt d k → j ≡ k
   once j k hj hk a b e =

@@ -15,7 +15,7 @@ use Rattle.theory.proofs.Walks.{smaller, table-kept, length-table}
 use Rattle.theory.proofs.Canonical.{levelOf, level-record, mix, mix-same, table-mix, canonical}
 use Rattle.theory.proofs.Growth.{Grows, grows-none}
 use Rattle.unique.specs.declared.Grown.{Grown}
-use Rattle.unique.specs.Node.{None, Makes, child, old, new, full}
+use Rattle.unique.specs.Node.{None, MakesNode, child, old, new, full}
 use Rattle.unique.specs.Search.{Named, Grew}
 use Rattle.unique.proofs.Extend.{Allowed, Added, extended, added-put, added-longer}
 
@@ -68,7 +68,7 @@ module _ {n used v low high : ℕ} {order c : List ℕ} (s : Sound n order c use
     added-named =
         record { node = omega arith; table = added-table; later = omega (arith, level-record n order d used, ap (level (flags n order)) (x .flag-is)) }
 
-  pub made : {r : Grown} {d : List ℕ} → Makes c used v low high r d
+  pub made : {r : Grown} {d : List ℕ} → MakesNode c used v low high r d
       → Grew n order goal (level (flags n order) v) (mix v (tableOf n c low) (tableOf n c high)) c used r d
   made (child e) =
       record {

@@ -28,9 +28,9 @@ abbrev pub grown : ℕ → ℕ → Grown
 grown used m = record { used = used; found = At m }
 
 -- the node of a flag and two children: the child where they are one; the first old record that is it; a new one where there is room; or no room
-pub data Makes (c : List ℕ) (used flag low high : ℕ) : Grown → List ℕ → Type 0 where
-  child : low ≡ high → Makes c used flag low high (grown used low) c
-  old : (low ≡ high → ⊥) → (k : ℕ) → k < used → None c k flag low high → Is c k flag low high → Makes c used flag low high (grown used (k + 2)) c
+pub data MakesNode (c : List ℕ) (used flag low high : ℕ) : Grown → List ℕ → Type 0 where
+  child : low ≡ high → MakesNode c used flag low high (grown used low) c
+  old : (low ≡ high → ⊥) → (k : ℕ) → k < used → None c k flag low high → Is c k flag low high → MakesNode c used flag low high (grown used (k + 2)) c
   new : (low ≡ high → ⊥) → None c used flag low high → used < room c
-      → Makes c used flag low high (grown (used + 1) (used + 2)) (putRecord c used flag low high)
-  full : (low ≡ high → ⊥) → None c used flag low high → used ≡ room c → Makes c used flag low high (record { used = used; found = Full }) c
+      → MakesNode c used flag low high (grown (used + 1) (used + 2)) (putRecord c used flag low high)
+  full : (low ≡ high → ⊥) → None c used flag low high → used ≡ room c → MakesNode c used flag low high (record { used = used; found = Full }) c

@@ -2,7 +2,7 @@
 // through it, so that no two records are equal and none has two equal children.
 ghost use Prim.Native.Nat.{_≤_};
 ghost use Rattle.rule.specs.Cells.{room};
-ghost use Rattle.unique.specs.Node.{Finds, Makes};
+ghost use Rattle.unique.specs.Node.{Finds, MakesNode};
 
 // What was found of a node: its number, or that there is no room for its record.
 pub enum Found {
@@ -38,7 +38,7 @@ pub fn find(cells: &[u16], used: u16, flag: u16, low: u16, high: u16) -> u16
 // The node that asks a flag and has these two children, which is the child itself where they are one.
 pub fn make(cells: &mut [u16], used: u16, flag: u16, low: u16, high: u16) -> Grown
     requires { ⌜ (used ≤ room (now cells)) × (room (now cells) ≤ 1024) ⌝ }
-    ensures { λ r. ⌜ Makes (now (cells .entry)) used flag low high r (now (cells .exit)) ⌝ }
+    ensures { λ r. ⌜ MakesNode (now (cells .entry)) used flag low high r (now (cells .exit)) ⌝ }
 {
     if low == high {
         return Grown {

@@ -16,7 +16,7 @@ use Rattle.theory.proofs.Sound.{sound-view}
 use Rattle.theory.proofs.Walks.{smaller}
 use Rattle.checking.proofs.Refused.{cellRows, Taken}
 use Rattle.checking.proofs.Parts.{fit-room, sound-room}
-use Rattle.walking.specs.Walk.{Walkable, Rows, rowsOf}
+use Rattle.walking.specs.Walk.{Walkable, Rows, walkedRows}
 use Rattle.rule.specs.Calls.{Walks, Tabulates}
 
 -- ---- cells that were taken
@@ -82,8 +82,8 @@ module _ (n : ℕ) (o c : List ℕ) (used m : ℕ) (bytes : List ℕ) where
       pub tabulate-rows : m ≤ used + 1 → Rows c used m bytes
       tabulate-rows g = record { walkable = walkable t g; few = omega (arith, l, pow-mono h) }
 
-      pub tabulate-done : m ≤ used + 1 → {after : List ℕ} → after ≡ rowsOf (length bytes) c m → Tabulates n o c used m bytes (accepted []) after
+      pub tabulate-done : m ≤ used + 1 → {after : List ℕ} → after ≡ walkedRows (length bytes) c m → Tabulates n o c used m bytes (accepted []) after
       tabulate-done g {after} e =
           let z : refusal (tabulateRows n o c used m bytes) ≡ 0 =
           sym rest ∙ rw (le-ltb _ _ (t .few), t .ordered, t .lent, t .is-sound, le-ltb (used + 1) m g) in
-          record { answer = rw z; bytes-are = rw z (e ∙ ap (λ (k : ℕ). rowsOf k c m) l) }
+          record { answer = rw z; bytes-are = rw z (e ∙ ap (λ (k : ℕ). walkedRows k c m) l) }

@@ -13,7 +13,7 @@ use Rattle.rule.specs.Cells.{flagAt, lowAt, highAt}
 use Rattle.rule.specs.Diagram.{step, walk}
 use Rattle.theory.proofs.Bits.{length-from, map-below}
 use Rattle.theory.proofs.Walks.{step-is, walk-record}
-use Rattle.walking.specs.Walk.{Walkable, rowsOf}
+use Rattle.walking.specs.Walk.{Walkable, walkedRows}
 
 -- the flag that was read, its value in the row, and the child that it leads to
 module _ (c : List ℕ) (k row f b x : ℕ) (flag : f ≡ flagAt c k) (value : b ≡ bit row f) where
@@ -57,7 +57,7 @@ written-more {c} {m} {k} {old} {bytes} w h x e =
       rows = below-more _ _ (λ r g. getD-set-other bytes k r x 0 (omega arith) ∙ w .rows r g) (getD-set-same bytes k x 0 h ∙ e);
     }
 
-pub written-all : {c : List ℕ} {m k : ℕ} {old bytes : List ℕ} → Written c m k old bytes → length bytes ≤ k → bytes ≡ rowsOf (length old) c m
+pub written-all : {c : List ℕ} {m k : ℕ} {old bytes : List ℕ} → Written c m k old bytes → length bytes ≤ k → bytes ≡ walkedRows (length old) c m
 written-all {c} {m} {k} {old} {bytes} w h =
     let l = w .lent in
     ext-getD 0 bytes (map (walk c m) (below (length old)))

@@ -21,5 +21,5 @@ pub record Rows (c : List ℕ) (used m : ℕ) (bytes : List ℕ) : Type 0 where
   pub few : length bytes ≤ 1024
 
 -- the first k answers of a node's walks
-abbrev pub rowsOf : ℕ → List ℕ → ℕ → List ℕ
-rowsOf k c m = map (walk c m) (below k)
+abbrev pub walkedRows : ℕ → List ℕ → ℕ → List ℕ
+walkedRows k c m = map (walk c m) (below k)
