@@ -14,18 +14,10 @@ pub fn is_new(cells: &[u16], k: u16) -> bool
     let flag = cells::flag_at(cells, k);
     let low = cells::low_at(cells, k);
     let high = cells::high_at(cells, k);
-    let mut j: u16 = 0;
-    while j < k {
-        if cells::flag_at(cells, j) == flag {
-            if cells::low_at(cells, j) == low {
-                if cells::high_at(cells, j) == high {
-                    return false;
-                }
-            }
-        }
-        j += 1;
+    if unique::find(cells, k, flag, low, high) == k {
+        return true;
     }
-    true
+    false
 }
 
 // Whether record k is sound by itself and beside the records before it.
