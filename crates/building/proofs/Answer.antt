@@ -3,20 +3,19 @@
 use mathlib.Core.Path.{_≡_, refl, sym, ap, subst, _∙_}
 use mathlib.Core.Bool.{true, false, not}
 use mathlib.Core.List.{List, [], _∷_}
-use Prim.Native.Nat.{ℕ, zero, suc, _%_, _≤_}
+use Prim.Native.Nat.{ℕ, zero, suc, _≤_}
 use native.Mathlib.Omega.{arith}
-use borrow.Author.Tests.{ltb-false, lt-ltb, le-ltb, eqb-true, leb-true, not-false}
-use lib.Dec.{ltb, eqb, leb}
-use lib.ListN.{length}
+use borrow.Author.Tests.{ltb-false, lt-ltb, le-ltb, eqb-true, not-false}
+use lib.Dec.{ltb}
 use Rattle.rule.specs.Table.{fitLength, fitRows}
 use Rattle.rule.specs.Level.{size}
 use Rattle.rule.specs.Order.{flags, fitOrder}
-use Rattle.rule.specs.Cells.{width, mostCells, fitCells, room}
+use Rattle.rule.specs.Cells.{fitCells, room}
 use Rattle.rule.specs.Refusals.{refusal, flagCount, tableLength, tableRead, orderPlaces, cells, result, buildRows}
 use Rattle.rule.specs.Reply.{accepted, refused, reply}
 use Rattle.rule.specs.Results.{rootBy}
 use Rattle.rule.specs.Calls.{DrawsOr, Build}
-use Rattle.theory.proofs.Tests.{and-split}
+use Rattle.cells.proofs.Fit.{fit-length}
 use Rattle.theory.proofs.Refused.{row-passed, refused-more, passed-more, refused-reply}
 use Rattle.building.specs.Fill.{Fits, Filled, Unfilled}
 
@@ -69,7 +68,7 @@ module _ (n : ℕ) (t o c : List ℕ) where
             rows = eqb-true _ _ (not-false _ l);
             bits = not-false _ w;
             order-fits = a;
-            lent = leb-true _ _ (and-split (eqb (length c % width) 0) (leb (length c) mostCells) b .1);
+            lent = fit-length c b;
           }
 
       pub exceeded : {d : List ℕ} → Unfilled n t o c d → Build n t o c (refused 10 (0 ∷ 0 ∷ [])) d

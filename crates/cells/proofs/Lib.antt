@@ -1,3 +1,5 @@
 pub mod Cleared
 pub mod Copied
 pub mod Record
+pub mod Added
+pub mod Fit

@@ -3,16 +3,16 @@
 use mathlib.Core.Path.{_≡_, refl, sym, ap, _∙_}
 use mathlib.Core.Bool.{Bool, true, false, not, _&&_, and-assoc}
 use mathlib.Core.List.{List, [], _∷_}
-use Prim.Native.Nat.{ℕ, _+_, _%_, _≤_, _<_}
+use Prim.Native.Nat.{ℕ, _+_, _≤_, _<_}
 use native.Mathlib.Omega.{arith}
 use borrow.Author.Count.{below-more}
 use borrow.Author.Tests.{eqb-true, eq-eqb, ne-eqb, lt-ltb, leb-true, le-leb, lt-leb, not-true, not-false}
 use lib.Dec.{eqb, leb}
-use lib.ListN.{length}
 use Rattle.rule.specs.Bits.{below}
 use Rattle.rule.specs.Tests.{each}
 use Rattle.rule.specs.Order.{flags}
-use Rattle.rule.specs.Cells.{width, mostCells, fitCells, room, flagAt, lowAt, highAt, flagsBelow, childrenDiffer, childrenSmaller, asksLater, childrenLater, sameRecord, noneEqual, restClear, sound}
+use Rattle.rule.specs.Cells.{fitCells, room, flagAt, lowAt, highAt, flagsBelow, childrenDiffer, childrenSmaller, asksLater, childrenLater, sameRecord, noneEqual, restClear, sound}
+use Rattle.cells.proofs.Fit.{fit-length}
 use Rattle.theory.proofs.Tests.{and-split, below-each}
 use Rattle.theory.proofs.Scan.{fails-below}
 use Rattle.checking.specs.Record.{isNew, fitRecord}
@@ -137,10 +137,7 @@ module _ (n : ℕ) (order c : List ℕ) (used : ℕ) where
 
 -- they hold at most 1,024 records
 pub fit-room : (c : List ℕ) → fitCells c ≡ true → room c ≤ 1024
-unfolding fitCells
-fit-room c e =
-    let h = leb-true (length c) mostCells (and-split (eqb (length c % width) 0) (leb (length c) mostCells) e .1) in
-    omega arith
+fit-room c e = omega (arith, fit-length c e)
 
 module _ (n : ℕ) (order c : List ℕ) (used : ℕ) where
   pub sound-room : sound n order c used ≡ true → used ≤ room c

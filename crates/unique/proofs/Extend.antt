@@ -2,16 +2,13 @@
 -- Assumes nothing.
 use mathlib.Core.Path.{_≡_, sym, ap, subst, _∙_}
 use mathlib.Core.Logic.{⊎-elim}
-use mathlib.Core.List.{List, [], _∷_, _++_}
-use Prim.Native.Nat.{ℕ, _+_, _*_, _≤_, _<_}
-use native.Mathlib.Nat.{add-zero, eq-or-lt-of-le}
+use mathlib.Core.List.{List}
+use Prim.Native.Nat.{ℕ, _+_, _≤_, _<_}
+use native.Mathlib.Nat.{eq-or-lt-of-le}
 use native.Mathlib.Omega.{arith}
-use lib.ListN.{length, getD, take, length-append, List·getD-append, List·getD-eq-default}
-use lib.Seq.{length-take-le, getD-take, getD-append-add}
 use Rattle.rule.specs.Order.{flags, level}
-use Rattle.rule.specs.Cells.{width, room, flagAt, lowAt, highAt, recordOf}
-use Rattle.cells.specs.Record.{putRecord}
-use Rattle.cells.proofs.Record.{put-length, put-else, put-flag, put-low, put-high}
+use Rattle.rule.specs.Cells.{flagAt, lowAt, highAt, recordOf}
+use Rattle.cells.proofs.Added.{Added}
 use Rattle.theory.proofs.Sound.{Sound}
 use Rattle.theory.proofs.Walks.{flag-kept, low-kept, high-kept}
 use Rattle.theory.proofs.Canonical.{levelOf, level-record}
@@ -26,15 +23,6 @@ pub record Allowed (n : ℕ) (order c : List ℕ) (used v low high : ℕ) : Type
   pub low-later : level (flags n order) v < levelOf n order c low
   pub high-later : level (flags n order) v < levelOf n order c high
   pub new : None c used v low high
-
--- d is c with this record behind the used ones
-pub record Added (c : List ℕ) (used v low high : ℕ) (d : List ℕ) : Type 0 where
-  pub fits : used + 1 ≤ room d
-  pub agree : (i : ℕ) → i < used * width → getD d i 0 ≡ getD c i 0
-  pub flag-is : flagAt d used ≡ v
-  pub low-is : lowAt d used ≡ low
-  pub high-is : highAt d used ≡ high
-  pub clear : (i : ℕ) → (used + 1) * width ≤ i → getD d i 0 ≡ 0
 
 -- what holds of an older record and of the new one holds of each
 each-record : {used : ℕ} (P : ℕ → Type 0) → ((k : ℕ) → k < used → P k) → P used → (k : ℕ) → k < used + 1 → P k
@@ -122,40 +110,3 @@ module _ {n used v low high : ℕ} {order c d : List ℕ} (s : Sound n order c u
       high-small : (k : ℕ) → k < used + 1 → highAt d k < k + 2
       high-small =
           each-record (λ (k : ℕ). highAt d k < k + 2) (λ k h. rw (old-high k h) (s .high-smaller k h)) (omega (arith, x .high-is, p .high-old))
-
--- ---- where a record is added
-
--- the record is put, where there is room
-pub added-put : {n used v low high : ℕ} {order c : List ℕ} → Sound n order c used → used < room c → Added c used v low high (putRecord c used v low high)
-added-put {n} {used} {v} {low} {high} {order} {c} s space =
-    record {
-      fits = omega (arith, put-length c used v low high);
-      agree = λ i h. put-else c used v low high i (omega arith) (omega arith) (omega arith);
-      flag-is = put-flag c used v low high space;
-      low-is = put-low c used v low high space;
-      high-is = put-high c used v low high space;
-      clear = λ i h. put-else c used v low high i (omega arith) (omega arith) (omega arith) ∙ s .clear i (omega arith);
-    }
-
--- longer cells, in which there would be room
-pub longer : List ℕ → ℕ → ℕ → ℕ → ℕ → List ℕ
-longer c used v low high = take (used * width) c ++ (v ∷ low ∷ high ∷ [])
-
-pub added-longer : {n used v low high : ℕ} {order c : List ℕ} → Sound n order c used → Added c used v low high (longer c used v low high)
-unfolding longer flagAt lowAt highAt
-added-longer {n} {used} {v} {low} {high} {order} {c} s =
-    let h : used * width ≤ length c = omega (arith, s .fits) in
-    let t : length (take (used * width) c) ≡ used * width = length-take-le (used * width) c h in
-    let e : length (take (used * width) c ++ (v ∷ low ∷ high ∷ [])) ≡ used * width + 3 = length-append (take (used * width) c) (v ∷ low ∷ high ∷ []) ∙ ap (λ (a : ℕ). a + 3) t in
-    let at : (i : ℕ) → getD (take (used * width) c ++ (v ∷ low ∷ high ∷ [])) (used * width + i) 0 ≡ getD (v ∷ low ∷ high ∷ []) i 0 =
-    λ i.
-    ap (λ (a : ℕ). getD (take (used * width) c ++ (v ∷ low ∷ high ∷ [])) (a + i) 0) (sym t)
-    ∙ getD-append-add (take (used * width) c) (v ∷ low ∷ high ∷ []) i 0 in
-    record {
-      fits = omega arith;
-      agree = λ i k. List·getD-append (take (used * width) c) (v ∷ low ∷ high ∷ []) 0 i (omega arith) ∙ getD-take (used * width) c i 0 k;
-      flag-is = ap (λ (a : ℕ). getD (take (used * width) c ++ (v ∷ low ∷ high ∷ [])) a 0) (sym (add-zero (used * width))) ∙ at 0;
-      low-is = at 1;
-      high-is = at 2;
-      clear = λ i k. List·getD-eq-default (take (used * width) c ++ (v ∷ low ∷ high ∷ [])) 0 (omega arith);
-    }

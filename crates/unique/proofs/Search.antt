@@ -17,7 +17,8 @@ use Rattle.theory.proofs.Growth.{Grows, grows-none}
 use Rattle.unique.specs.declared.Grown.{Grown}
 use Rattle.unique.specs.Node.{None, MakesNode, child, old, new, full}
 use Rattle.unique.specs.Search.{Named, Grew}
-use Rattle.unique.proofs.Extend.{Allowed, Added, extended, added-put, added-longer}
+use Rattle.cells.proofs.Added.{Added, added-put, added-longer}
+use Rattle.unique.proofs.Extend.{Allowed, extended}
 
 -- a flag and two older nodes at later levels
 pub record Branch (n : ℕ) (order c : List ℕ) (used v low high : ℕ) : Type 0 where
@@ -89,10 +90,10 @@ module _ {n used v low high : ℕ} {order c : List ℕ} (s : Sound n order c use
         };
       }
   made (new differ none space) =
-      let x = added-put s space in
+      let x = added-put v low high (s .fits) (s .clear) space in
       record { grows = added-grows differ none x (put-length c used v low high); is = added-named differ none x }
   made (full differ none e) =
       record {
         grows = grows-none goal s;
-        is = record { full = e; missing = _; called = call differ; absent = added-new differ none (added-longer s) };
+        is = record { full = e; missing = _; called = call differ; absent = added-new differ none (added-longer v low high (s .fits) (s .clear)) };
       }
