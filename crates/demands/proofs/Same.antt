@@ -14,7 +14,7 @@ use Rattle.rule.specs.Order.{flags, level}
 use Rattle.rule.specs.Cells.{flagAt}
 use Rattle.rule.specs.Diagram.{tableOf}
 use Rattle.rule.specs.Reduced.{DrawnAs}
-use Rattle.rule.specs.Demands.{Fit, SameRecord}
+use Rattle.rule.specs.Demands.{Fit, Matches}
 use Rattle.theory.proofs.Member.{In}
 use Rattle.theory.proofs.Orders.{fit-order-is}
 use Rattle.theory.proofs.Sets.{Order}
@@ -41,7 +41,7 @@ module _ {n used more : ℕ} {order c d : List ℕ} (s : Sound n order c used) (
         | no q ↦ first-asked z o (flagAt c k) j (s .flag k h) l (omega arith) (ap (depends (flagAt c k)) e ∙ asks s o k h)
       ]
 
-  same-record : (k j : ℕ) → k < used → j < more → tableOf n d (j + 2) ≡ tableOf n c (k + 2) → SameRecord n c d k j
+  same-record : (k j : ℕ) → k < used → j < more → tableOf n d (j + 2) ≡ tableOf n c (k + 2) → Matches n c d k j
   same-record k j h l e =
       let f = same-flag k j h l e in
       record {
@@ -53,7 +53,7 @@ module _ {n used more : ℕ} {order c d : List ℕ} (s : Sound n order c used) (
 
 -- each record of a diagram is in every other diagram of the table under the order
 pub one-diagram : (n : ℕ) (order t : List ℕ) → Fit n order t → (c d : List ℕ) (used root more top : ℕ) → DrawnAs n order t c used root
-    → DrawnAs n order t d more top → (k : ℕ) → k < used → (j : ℕ) × (j < more) × SameRecord n c d k j
+    → DrawnAs n order t d more top → (k : ℕ) → k < used → (j : ℕ) × (j < more) × Matches n c d k j
 one-diagram n order t f c d used root more top x y k h =
     let o = fit-order-is n order (f .order-fits) in
     let a = drawn-diagram x in

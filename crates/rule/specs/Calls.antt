@@ -56,14 +56,16 @@ pub record State : Type 0 where
   pub places : List ℕ
   pub used : ℕ
 
+-- the state with another number of records used
 abbrev pub withUsed : State → ℕ → State
 withUsed s used = record { n = s .n; places = s .places; used = used }
 
--- the state comes back from walk and tabulate as it was given
+-- the state "comes back" from walk as it was given
 pub record Walk (s : State) (c : List ℕ) (m row : ℕ) (r : Reply) (s′ : State) : Type 0 where
   pub state : s′ ≡ s
   pub walks : Walks (s .n) (s .places) c (s .used) m row r
 
+-- and from tabulate
 pub record Tabulate (s : State) (c : List ℕ) (m : ℕ) (bytes : List ℕ) (r : Reply) (s′ : State) (after : List ℕ) : Type 0 where
   pub state : s′ ≡ s
   pub tabulates : Tabulates (s .n) (s .places) c (s .used) m bytes r after
@@ -85,6 +87,7 @@ pub record Holds (s : State) (c t d : List ℕ) : Type 0 where
       → among (tableOf (s .n) d (k + 2)) (nodesOf (flags (s .n) (s .places)) t) ≡ true
   pub rule : tableOf (s .n) d (madeNode (s .n) (s .places) c (s .used) t) ≡ t
 
+-- what becomes of a store's cells under a refusal's number: "It alters nothing lent"
 abbrev pub HoldsOr : ℕ → State → List ℕ → List ℕ → List ℕ → Type 0
 HoldsOr zero s c t d = Holds s c t d
 HoldsOr (suc k) s c t d = d ≡ c

@@ -40,8 +40,8 @@ pub record StandsFor (n : ℕ) (order t c : List ℕ) (nodes root : ℕ) : Type 
   pub drawn : DrawnAs n order t c nodes root
   pub tabulates : (bytes after : List ℕ) (r : Reply) → length bytes ≡ 2 ^ n → Tabulates n order c nodes root bytes r after → Accepted r × (after ≡ t)
 
--- record j of d is record k of c, but for the sequence: it has the same flag, and its children have the tables of k's children
-pub record SameRecord (n : ℕ) (c d : List ℕ) (k j : ℕ) : Type 0 where
+-- record j of d is record k of c, but for the sequence: it has the same flag and table, and its children have the tables of k's children
+pub record Matches (n : ℕ) (c d : List ℕ) (k j : ℕ) : Type 0 where
   pub flag : flagAt d j ≡ flagAt c k
   pub low : tableOf n d (lowAt d j) ≡ tableOf n c (lowAt c k)
   pub high : tableOf n d (highAt d j) ≡ tableOf n c (highAt c k)
@@ -72,13 +72,13 @@ pub record Demand2 : Type 0 where
   pub canonical : (n used k m : ℕ) (order c : List ℕ) → n ≤ 10 → length order ≡ places → fitOrder n order ≡ true → sound n order c used ≡ true → k ≤ used + 1
       → m ≤ used + 1 → (tableOf n c k ≡ tableOf n c m) ↔ (k ≡ m)
   -- "So its root is its last record, or an end node when there are none."
-  pub root-last : (n used root : ℕ) (order c : List ℕ) → diagram n order c used root ≡ true → 0 < used → root ≡ used + 1
+  pub root-last : (n used root : ℕ) (order c : List ℕ) → diagram n order c used root ≡ true → (0 < used → root ≡ used + 1) × (used ≡ 0 → root ≤ 1)
+  -- "the reduced ordered diagram of that table": each record of one is in any other, and "which of the permitted sequences the records stand in is open"
+  pub one-diagram : (n : ℕ) (order t : List ℕ) → Fit n order t → (c d : List ℕ) (used root more top : ℕ) → DrawnAs n order t c used root
+      → DrawnAs n order t d more top → (k : ℕ) → k < used → (j : ℕ) × (j < more) × Matches n c d k j
   -- what refusal 10 counts for build and pack: the records of each diagram of the table, of which there is one in every order
   pub counts : (n : ℕ) (order t : List ℕ) → Fit n order t → (c : List ℕ) (used root : ℕ) → DrawnAs n order t c used root → used ≡ size (flags n order) t
   pub exists : (n : ℕ) (order t : List ℕ) → Fit n order t → (c : List ℕ) × (used : ℕ) × (root : ℕ) × DrawnAs n order t c used root
-  -- "the reduced ordered diagram of that table": any two have the same records, and "which of the permitted sequences the records stand in is open"
-  pub one-diagram : (n : ℕ) (order t : List ℕ) → Fit n order t → (c d : List ℕ) (used root more top : ℕ) → DrawnAs n order t c used root
-      → DrawnAs n order t d more top → (k : ℕ) → k < used → (j : ℕ) × (j < more) × SameRecord n c d k j
   -- what it counts for a rule made in a store: no sound cells that keep the older nodes and hold the rule use fewer records
   pub needs : (n : ℕ) (order t : List ℕ) → Fit n order t → (c d : List ℕ) (used more m : ℕ) → sound n order c used ≡ true → sound n order d more ≡ true
       → used ≤ more → ((k : ℕ) → k ≤ used + 1 → tableOf n d k ≡ tableOf n c k) → m ≤ more + 1 → tableOf n d m ≡ t

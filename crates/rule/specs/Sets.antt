@@ -1,7 +1,7 @@
 -- The fixed list of sets that packing goes through (document 01, "Packing"). A set of flags is a number: bit v says that flag v is in it.
 -- Assumes nothing.
 use mathlib.Core.List.{List, [], _∷_, _++_}
-use Prim.Native.Nat.{ℕ}
+use Prim.Native.Nat.{ℕ, zero, suc, _+_, _-_, _^_}
 use lib.Count.{onesIn}
 use lib.Dec.{eqb}
 use lib.ListN.{getD}
@@ -26,3 +26,12 @@ sets = ofSizes (below 11)
 
 unfoldable pub setAt : ℕ → ℕ
 setAt i = getD sets i 0
+
+-- "each set of k flags has its own stretch of 2^(n−k) cells": its length in the workspace of n flags
+abbrev pub stretch : ℕ → ℕ → ℕ
+stretch n x = 2 ^ (n - setSize x)
+
+-- where a set's stretch starts: behind those of the sets with smaller numbers; behind all 2^n sets, "3^n in all"
+unfoldable pub stretchAt : ℕ → ℕ → ℕ
+stretchAt n zero = 0
+stretchAt n (suc x) = stretchAt n x + stretch n x

@@ -1,3 +1,4 @@
 pub mod Size
 pub mod Rising
 pub mod Sequence
+pub mod Stretches

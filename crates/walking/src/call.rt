@@ -4,7 +4,6 @@ use rule::Done;
 use rule::Node;
 use rule::Order;
 use rule::Said;
-ghost use mathlib.Core.Path.{_≡_};
 ghost use Rattle.rule.specs.Answers.{doneReply, saidReply};
 ghost use Rattle.rule.specs.Calls.{Walks, Tabulates};
 
