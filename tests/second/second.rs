@@ -416,6 +416,10 @@ fn vectors(directory: &str) -> std::io::Result<()> {
     for table in tables.iter().filter(|table| table.len() > 16).cycle().take(200) {
         case(table, &dice.order(flag_count(table)));
     }
+    for n in [7, 8, 9, 10, 10] {
+        let table = dice.table(n, 4);
+        case(&table, &dice.order(n));
+    }
     std::fs::create_dir_all(directory)?;
     std::fs::write(format!("{directory}/pack.in"), pack_in)?;
     std::fs::write(format!("{directory}/pack.out"), pack_out)?;
