@@ -3,6 +3,7 @@ pub mod Canonical
 pub mod Counts
 pub mod Exists
 pub mod Needs
+pub mod Suffices
 pub mod Same
 pub mod Longer
 pub mod Reader
