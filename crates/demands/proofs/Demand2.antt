@@ -7,6 +7,7 @@ use Rattle.demands.proofs.Canonical.{canonical, root-last}
 use Rattle.demands.proofs.Counts.{counts}
 use Rattle.demands.proofs.Exists.{exists}
 use Rattle.demands.proofs.Needs.{needs}
+use Rattle.demands.proofs.Suffices.{suffices}
 use Rattle.demands.proofs.Same.{one-diagram}
 use Rattle.demands.proofs.NoRoom.{no-room-built, no-room-packed, no-room-flag, no-room-join, no-room-choose, no-room-fix}
 
@@ -24,6 +25,7 @@ demand2 =
       exists = exists;
       one-diagram = one-diagram;
       needs = needs;
+      suffices = suffices;
       no-room-built = no-room-built;
       no-room-packed = no-room-packed;
       no-room-flag = no-room-flag;

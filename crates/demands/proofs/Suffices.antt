@@ -31,7 +31,8 @@ use Rattle.theory.proofs.Walks.{node, smaller, table-kept}
 use Rattle.theory.proofs.Canonical.{levelOf, level-end, level-record, child-later, mix, table-mix, canonical, asks, depends-asks}
 use Rattle.theory.proofs.Counting.{record-node}
 use Rattle.unique.specs.Node.{None}
-use Rattle.unique.proofs.Extend.{Allowed, Added, extended, longer, added-longer}
+use Rattle.cells.proofs.Added.{Added, longer, added-longer}
+use Rattle.unique.proofs.Extend.{Allowed, extended}
 use Rattle.demands.proofs.Counts.{drawn-diagram}
 use Rattle.demands.proofs.Exists.{exists}
 use Rattle.demands.proofs.Needs.{needs}
@@ -129,7 +130,7 @@ module _ {n used most : ℕ} {order c e : List ℕ} (goal : List (List ℕ)) (s 
           }
 
       added : Added d more (flagAt e j) low high next
-      added = added-longer (x .is-sound)
+      added = added-longer (flagAt e j) low high (x .is-sound .fits) (x .is-sound .clear)
 
       next-sound : Sound n order next (more + 1)
       next-sound = extended (x .is-sound) allowed added

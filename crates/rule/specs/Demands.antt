@@ -79,10 +79,14 @@ pub record Demand2 : Type 0 where
   -- what refusal 10 counts for build and pack: the records of each diagram of the table, of which there is one in every order
   pub counts : (n : ℕ) (order t : List ℕ) → Fit n order t → (c : List ℕ) (used root : ℕ) → DrawnAs n order t c used root → used ≡ size (flags n order) t
   pub exists : (n : ℕ) (order t : List ℕ) → Fit n order t → (c : List ℕ) × (used : ℕ) × (root : ℕ) × DrawnAs n order t c used root
-  -- what it counts for a rule made in a store: no sound cells that keep the older nodes and hold the rule use fewer records
+  -- what refusal 10 counts for a rule made in a store: no sound cells that keep the older nodes and hold the rule use fewer records
   pub needs : (n : ℕ) (order t : List ℕ) → Fit n order t → (c d : List ℕ) (used more m : ℕ) → sound n order c used ≡ true → sound n order d more ≡ true
       → used ≤ more → ((k : ℕ) → k ≤ used + 1 → tableOf n d k ≡ tableOf n c k) → m ≤ more + 1 → tableOf n d m ≡ t
       → used + needed n order c used t ≤ more
+  -- and some use just so many
+  pub suffices : (n : ℕ) (order t : List ℕ) → Fit n order t → (c : List ℕ) (used : ℕ) → sound n order c used ≡ true
+      → (d : List ℕ) × (m : ℕ) × (sound n order d (used + needed n order c used t) ≡ true)
+      × ((k : ℕ) → k ≤ used + 1 → tableOf n d k ≡ tableOf n c k) × (m ≤ used + needed n order c used t + 1) × (tableOf n d m ≡ t)
   -- "When a rule is built, packed or made in a store, "no room" comes only when the result truly needs more records than are free.": where build is refused
   -- under 10, each diagram of the table in that order has more records than the cells hold
   pub no-room-built : (n used root : ℕ) (t order c d e : List ℕ) (r : Reply) → length order ≡ places → Build n t order c r d → numberOf r ≡ 10

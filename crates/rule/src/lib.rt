@@ -1,5 +1,5 @@
 // The values that the engine's calls take and hand back (document 01): orders, nodes, and the answer of each call.
-// What they mean is in specs/, in the paper's sequence; every other crate's contracts cite those definitions.
+// What they mean is in specs/; every other crate's contracts cite those definitions.
 mod answer;
 mod node;
 mod order;
