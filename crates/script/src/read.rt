@@ -138,9 +138,14 @@ fn lines(text: &[u8]) {
     }
 }
 
-// Every line of standard input.
+// Every line of standard input, or that there is more of it than can be read.
 pub fn run() {
     let mut buffer = io::large_buffer();
     let n = io::read_full(STDIN_FILENO, &mut buffer);
+    if buffer.len() <= n {
+        print::too_long();
+        print::line_end();
+        return;
+    }
     lines(&buffer[..n]);
 }
