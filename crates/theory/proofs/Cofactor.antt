@@ -2,17 +2,17 @@
 -- Assumes nothing.
 use mathlib.Core.Path.{_≡_, refl, sym, ap, _∙_}
 use mathlib.Core.Logic.{_≢_, inl, inr}
-use mathlib.Core.Bool.{Bool, true, false, not, true≢false}
+use mathlib.Core.Bool.{true, false, not, true≢false}
 use mathlib.Core.List.{List}
-use Prim.Native.Nat.{ℕ, zero, suc, _^_, _<_}
+use Prim.Native.Nat.{ℕ, _^_, _<_}
 use native.Mathlib.Omega.{arith}
 use lib.Dec.{ltb}
 use lib.ListN.{length, getD, length-map}
 use lib.Seq.{ext-getD}
 use borrow.Author.Tests.{ltb-true, lt-ltb}
-use Rattle.rule.specs.Bits.{bit, setBit, below}
+use Rattle.rule.specs.Bits.{setBit, below}
 use Rattle.rule.specs.Table.{fitRows, cofactor, depends}
-use Rattle.theory.proofs.Bits.{length-from, map-below, bit-lt, setBit-lt, setBit-comm, setBit-twice, setBit-own}
+use Rattle.theory.proofs.Bits.{length-from, map-below, setBit-lt, setBit-comm, setBit-twice}
 use Rattle.theory.proofs.Tests.{same?, each-at, at-each}
 
 -- ---- rows
@@ -67,38 +67,11 @@ pub not-depends : (v : ℕ) (t : List ℕ) → cofactor v 0 t ≡ cofactor v 1 t
 unfolding depends
 not-depends v t e = elim (same? (cofactor v 0 t) (cofactor v 1 t)) [ inl s ↦ ap not (s .0) | inr s ↦ absurd (s .1 e) ]
 
--- a table that does not depend on a flag is each of its cofactors there
-pub cofactor-own : (i b : ℕ) (t : List ℕ) → b < 2 → depends i t ≡ false → cofactor i b t ≡ t
-cofactor-own i b t b<2 d =
-    ext-getD 0 (cofactor i b t) t (length-cofactor i b t)
-    (λ r h.
-    let k : r < length t = simp length-cofactor at h in
-    ap (λ (u : List ℕ). getD u r 0) (low b b<2 ∙ sym (low (bit r i) (bit-lt r i)))
-    ∙ cofactor-row i (bit r i) t r k
-    ∙ ap (λ (x : ℕ). getD t x 0) (setBit-own r i))
-  where
-    low : (c : ℕ) → c < 2 → cofactor i c t ≡ cofactor i 0 t
-    low zero h = refl
-    low (suc zero) h = sym (depends-false i t d)
-    low (suc (suc c)) h = absurd (omega arith)
-
 module _ (n : ℕ) (t : List ℕ) (fit : length t ≡ 2 ^ n) where
   -- a cofactor does not depend on the flag that is fixed
   pub cofactor-free : (i b : ℕ) → i < n → depends i (cofactor i b t) ≡ false
   cofactor-free i b i<n =
       not-depends i (cofactor i b t) (cofactor-twice n t fit i 0 b i<n (omega arith) ∙ sym (cofactor-twice n t fit i 1 b i<n (omega arith)))
-
-  -- and on no other that the table does not depend on
-  pub depends-cofactor : (v i b : ℕ) → v < n → i < n → b < 2 → v ≢ i → depends v (cofactor i b t) ≡ true → depends v t ≡ true
-  depends-cofactor v i b v<n i<n b<2 v≢i h = go (depends v t) refl
-    where
-      swapped : (c : ℕ) → c < 2 → cofactor v c (cofactor i b t) ≡ cofactor i b (cofactor v c t)
-      swapped c c<2 = cofactor-comm n t fit v i c b v<n i<n c<2 b<2 v≢i
-
-      go : (x : Bool) → depends v t ≡ x → x ≡ true
-      go true e = refl
-      go false e =
-          absurd (depends-true v (cofactor i b t) h (swapped 0 (omega arith) ∙ ap (cofactor i b) (depends-false v t e) ∙ sym (swapped 1 (omega arith))))
 
 -- ---- answers 0 and 1
 

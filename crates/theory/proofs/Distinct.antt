@@ -1,14 +1,12 @@
 -- The distinct tables of a list: its members, each once. Their number goes by the members alone.
 -- Assumes nothing.
-use mathlib.Core.Path.{_≡_}
 use mathlib.Core.Logic.{inl, inr}
 use mathlib.Core.List.{List, [], _∷_}
-use Prim.Native.Nat.{ℕ, _≤_}
-use lib.ListN.{length}
+use Prim.Native.Nat.{ℕ}
 use Rattle.rule.specs.Level.{distinct}
 use Rattle.theory.proofs.Member.{head, tail, cases-cons, cast}
 use Rattle.theory.proofs.Tests.{among?}
-use Rattle.theory.proofs.Perm.{Once, Within, once-length, once-set}
+use Rattle.theory.proofs.Perm.{Once, Within}
 
 -- the members are the list's
 pub distinct-in : (ts : List (List ℕ)) → Within (distinct ts) ts
@@ -38,15 +36,3 @@ distinct-once (t ∷ ts) =
       | inl h ↦ rw (h .0) (distinct-once ts)
       | inr h ↦ rw (h .0) (λ m. h .1 (distinct-in ts t m), distinct-once ts)
     ]
-
-distinct-within : (xs ys : List (List ℕ)) → Within xs ys → Within (distinct xs) (distinct ys)
-distinct-within xs ys w t m = in-distinct ys t (w t (distinct-in xs t m))
-
--- more members, no fewer distinct tables
-pub distinct-mono : (xs ys : List (List ℕ)) → Within xs ys → length (distinct xs) ≤ length (distinct ys)
-distinct-mono xs ys w = once-length (distinct xs) (distinct ys) (distinct-once xs) (distinct-within xs ys w)
-
--- the same members, as many
-pub distinct-set : (xs ys : List (List ℕ)) → Within xs ys → Within ys xs → length (distinct xs) ≡ length (distinct ys)
-distinct-set xs ys w r =
-    once-set (distinct xs) (distinct ys) (distinct-once xs) (distinct-once ys) (distinct-within xs ys w) (distinct-within ys xs r)

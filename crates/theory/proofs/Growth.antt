@@ -11,7 +11,6 @@ use Rattle.rule.specs.Order.{flags, level}
 use Rattle.rule.specs.Cells.{width}
 use Rattle.rule.specs.Diagram.{tableOf}
 use Rattle.theory.proofs.Member.{In}
-use Rattle.theory.proofs.Perm.{Within}
 use Rattle.theory.proofs.Sound.{Sound}
 use Rattle.theory.proofs.Walks.{node, smaller, table-kept, flag-kept}
 use Rattle.theory.proofs.Canonical.{levelOf, level-end, level-record}
@@ -48,12 +47,6 @@ grows-more {n} {used} {more} {most} {order} {c} {d} {e} {goal} f g =
     go : (k : ℕ) → used ≤ k → k < most → Dec (k < more) → In (tableOf n e (k + 2)) goal
     go k h l (yes x) = rw (older (f .is-sound) g (k + 2) (omega arith)) (f .within k h x)
     go k h l (no x) = g .within k (omega arith) l
-
--- every goal that has the tables of another will do
-pub grows-for : {n used more : ℕ} {order c d : List ℕ} {goal aim : List (List ℕ)} → Within goal aim → Grows n order goal c used d more
-    → Grows n order aim c used d more
-grows-for w g =
-    record { lent = g .lent; is-sound = g .is-sound; grown = g .grown; old = g .old; within = λ k h l. w _ (g .within k h l) }
 
 -- an older node keeps its level
 pub older-level : {n used more : ℕ} {order c d : List ℕ} {goal : List (List ℕ)} → Grows n order goal c used d more → (m : ℕ) → m ≤ used + 1
