@@ -1,4 +1,4 @@
--- The distinct tables of a list: its members, each once. Their number goes by the members alone.
+-- The distinct tables of a list: its members, each once.
 -- Assumes nothing.
 use mathlib.Core.Logic.{inl, inr}
 use mathlib.Core.List.{List, [], _∷_}
