@@ -23,12 +23,15 @@ use Rattle.theory.proofs.Friedman.{in-level}
 use Rattle.theory.proofs.Sets.{Order}
 use Rattle.theory.proofs.Orders.{order-length, fit-order-is}
 use Rattle.theory.proofs.Levels.{asked-prefix, asked-lower}
-use Rattle.theory.proofs.Sound.{Sound, sound-view, view-sound}
+use Rattle.theory.specs.Growth.{Grows}
+use Rattle.theory.specs.Restrict.{restrict}
+use Rattle.theory.specs.Sound.{Sound}
+use Rattle.theory.proofs.Sound.{sound-view, view-sound}
 use Rattle.theory.proofs.Walks.{walk-end, length-table, table-row, rows-eq}
 use Rattle.theory.proofs.Canonical.{level-end, mix, mix-cofactors, canonical}
 use Rattle.theory.proofs.Counting.{nodes-is}
-use Rattle.theory.proofs.Restrict.{restrict, length-restrict, restrict-in, restrict-snoc, restrict-agree, restrict-all}
-use Rattle.theory.proofs.Growth.{Grows, grows-none, grows-more, older, older-level}
+use Rattle.theory.proofs.Restrict.{length-restrict, restrict-in, restrict-snoc, restrict-agree, restrict-all}
+use Rattle.theory.proofs.Growth.{grows-none, grows-more, older, older-level}
 use Rattle.unique.specs.declared.Grown.{Grown}
 use Rattle.unique.specs.declared.Found.{Found}
 use Rattle.unique.specs.declared.Found.the-variants.{At, Full}

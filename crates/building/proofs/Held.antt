@@ -10,7 +10,7 @@ use lib.Seq.{take-at}
 use Rattle.rule.specs.Level.{size, nodesOf}
 use Rattle.rule.specs.Order.{flags}
 use Rattle.rule.specs.Cells.{mostCells, room}
-use Rattle.theory.proofs.Restrict.{restrict}
+use Rattle.theory.specs.Restrict.{restrict}
 use Rattle.unique.specs.declared.Grown.{Grown}
 use Rattle.unique.specs.declared.Found.{Found}
 use Rattle.unique.specs.declared.Found.the-variants.{At, Full}

@@ -9,7 +9,7 @@ use Rattle.rule.specs.Table.{fitRows}
 use Rattle.rule.specs.Level.{nodesOf}
 use Rattle.rule.specs.Order.{flags, fitOrder}
 use Rattle.rule.specs.Cells.{room, sound}
-use Rattle.theory.proofs.Restrict.{restrict}
+use Rattle.theory.specs.Restrict.{restrict}
 use Rattle.unique.specs.declared.Grown.{Grown}
 use Rattle.unique.specs.Search.{Grew}
 

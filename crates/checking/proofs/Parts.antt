@@ -1,20 +1,21 @@
 -- Sound cells, record by record: two records that are equal or not, one that is sound or not, all of them, and what cells are that are sound.
 -- Assumes nothing.
 use mathlib.Core.Path.{_≡_, refl, sym, ap, _∙_}
-use mathlib.Core.Bool.{Bool, true, false, not, _&&_, and-assoc}
+use mathlib.Core.Bool.{Bool, true, false, not, _&&_}
 use mathlib.Core.List.{List, [], _∷_}
 use Prim.Native.Nat.{ℕ, _+_, _≤_, _<_}
 use native.Mathlib.Omega.{arith}
 use borrow.Author.Count.{below-more}
-use borrow.Author.Tests.{eqb-true, eq-eqb, ne-eqb, lt-ltb, leb-true, le-leb, lt-leb, not-true, not-false}
+use borrow.Author.Tests.{eqb-true, eq-eqb, ne-eqb, lt-ltb, le-leb, lt-leb, not-true, not-false}
 use lib.Dec.{eqb, leb}
 use Rattle.rule.specs.Bits.{below}
 use Rattle.rule.specs.Tests.{each}
 use Rattle.rule.specs.Order.{flags}
-use Rattle.rule.specs.Cells.{fitCells, room, flagAt, lowAt, highAt, flagsBelow, childrenDiffer, childrenSmaller, asksLater, childrenLater, sameRecord, noneEqual, restClear, sound}
+use Rattle.rule.specs.Cells.{fitCells, room, flagAt, lowAt, highAt, flagsBelow, childrenDiffer, childrenSmaller, asksLater, childrenLater, sameRecord, noneEqual, restClear, laid, sound}
 use Rattle.cells.proofs.Fit.{fit-length}
 use Rattle.theory.proofs.Tests.{and-split, below-each}
 use Rattle.theory.proofs.Scan.{fails-below}
+use Rattle.theory.proofs.Sound.{sound-view}
 use Rattle.checking.specs.Record.{isNew, fitRecord}
 
 pub fails : (b : Bool) → (b ≡ true → ⊥) → b ≡ false
@@ -116,11 +117,18 @@ module _ (n : ℕ) (order c : List ℕ) (used : ℕ) where
   unfolding fitRecord isNew flagsBelow childrenDiffer childrenSmaller childrenLater noneEqual
   all-parts = simp each-and
 
+and-behind : (a b x : Bool) → ((a && b) && x) ≡ (a && (x && b))
+and-behind false b x = refl
+and-behind true true true = refl
+and-behind true true false = refl
+and-behind true false true = refl
+and-behind true false false = refl
+
 -- "sound" by one test of each used record
 module _ (n : ℕ) (order c : List ℕ) (used : ℕ) where
   sound-by : sound n order c used ≡ (leb used (room c) && (each (fitRecord n (flags n order) c) (below used) && restClear c used))
-  unfolding sound
-  sound-by = rw all-parts (simp and-assoc)
+  unfolding sound laid
+  sound-by = rw all-parts (and-behind (leb used (room c)) (restClear c used) _)
 
   pub sound-full : {r : ℕ} → r ≡ room c → r < used → false ≡ sound n order c used
   sound-full e h = sym (sound-by ∙ rw (lt-leb used (room c) (omega arith)))
@@ -141,13 +149,12 @@ fit-room c e = omega (arith, fit-length c e)
 
 module _ (n : ℕ) (order c : List ℕ) (used : ℕ) where
   pub sound-room : sound n order c used ≡ true → used ≤ room c
-  unfolding sound
-  sound-room e = leb-true used (room c) (and-split (leb used (room c)) _ e .0)
+  sound-room e = sound-view n order c used e .fits
 
   pub sound-smaller : sound n order c used ≡ true → childrenSmaller c used ≡ true
   unfolding sound
   sound-smaller e =
-      let e₁ = and-split (leb used (room c)) _ e .1 in
+      let e₁ = and-split (laid c used) _ e .1 in
       let e₂ = and-split (flagsBelow n c used) _ e₁ .1 in
       let e₃ = and-split (childrenDiffer c used) _ e₂ .1 in
       and-split (childrenSmaller c used) _ e₃ .0

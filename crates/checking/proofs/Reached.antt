@@ -17,7 +17,7 @@ use Rattle.theory.proofs.Bits.{below-in}
 use Rattle.theory.proofs.Tests.{each-below, below-each}
 use Rattle.theory.proofs.Scan.{fails-below}
 use Rattle.theory.proofs.Sound.{children-smaller}
-use Rattle.theory.proofs.Walks.{Smaller}
+use Rattle.theory.specs.Sound.{Smaller}
 use Rattle.theory.proofs.Reach.{Parent, root-last, reached-parents, reached-by-parents}
 use Rattle.checking.specs.Record.{isParent, orphan}
 use Rattle.checking.proofs.Parts.{fails}

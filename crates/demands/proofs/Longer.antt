@@ -9,7 +9,7 @@ use native.Mathlib.Omega.{arith}
 use lib.ListN.{length, getD, take, replicate}
 use Rattle.rule.specs.Cells.{room, flagAt, lowAt, highAt, recordOf}
 use Rattle.rule.specs.Diagram.{reach}
-use Rattle.theory.proofs.Sound.{Sound}
+use Rattle.theory.specs.Sound.{Sound}
 use Rattle.theory.proofs.Walks.{smaller, flag-kept, low-kept, high-kept}
 use Rattle.theory.proofs.Reach.{Diagram, reach-self, reach-from, reach-cases}
 

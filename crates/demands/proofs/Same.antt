@@ -18,7 +18,7 @@ use Rattle.rule.specs.Demands.{Fit, Matches}
 use Rattle.theory.proofs.Member.{In}
 use Rattle.theory.proofs.Orders.{fit-order-is}
 use Rattle.theory.proofs.Sets.{Order}
-use Rattle.theory.proofs.Sound.{Sound}
+use Rattle.theory.specs.Sound.{Sound}
 use Rattle.theory.proofs.Canonical.{level-record, record-low, record-high, asks, depends-asks}
 use Rattle.theory.proofs.Counting.{record-node, node-record}
 use Rattle.demands.proofs.Counts.{drawn-diagram}

@@ -26,9 +26,11 @@ use Rattle.theory.proofs.Perm.{Once, once-length, once-from, once-map}
 use Rattle.theory.proofs.Orders.{fit-order-is}
 use Rattle.theory.proofs.Sets.{Order}
 use Rattle.theory.proofs.Levels.{level-lt}
-use Rattle.theory.proofs.Sound.{Sound, sound-view, view-sound}
+use Rattle.theory.specs.Level.{levelOf}
+use Rattle.theory.specs.Sound.{Sound}
+use Rattle.theory.proofs.Sound.{sound-view, view-sound}
 use Rattle.theory.proofs.Walks.{node, smaller, table-kept}
-use Rattle.theory.proofs.Canonical.{levelOf, level-end, level-record, child-later, mix, table-mix, canonical, asks, depends-asks}
+use Rattle.theory.proofs.Canonical.{level-end, level-record, child-later, mix, table-mix, canonical, asks, depends-asks}
 use Rattle.theory.proofs.Counting.{record-node}
 use Rattle.unique.specs.Node.{None}
 use Rattle.cells.proofs.Added.{Added, longer, added-longer}

@@ -82,10 +82,13 @@ noneEqual c used = each (λ k. each (λ j. not (sameRecord c j k)) (below k)) (b
 unfoldable pub restClear : List ℕ → ℕ → Bool
 restClear c used = each (eqb 0) (drop (used * width) c)
 
--- "Lent cells are sound when": all of these, of no more used records than the cells hold
+-- the cells hold the used records and nothing else: no more than there is room for, and 0 past them
+unfoldable pub laid : List ℕ → ℕ → Bool
+laid c used = leb used (room c) && restClear c used
+
+-- "Lent cells are sound when": all of these
 unfoldable pub sound : ℕ → List ℕ → List ℕ → ℕ → Bool
 sound n order c used =
-    leb used (room c)
+    laid c used
     && (flagsBelow n c used
-    && (childrenDiffer c used
-    && (childrenSmaller c used && (childrenLater (flags n order) c used && (noneEqual c used && restClear c used)))))
+    && (childrenDiffer c used && (childrenSmaller c used && (childrenLater (flags n order) c used && noneEqual c used))))

@@ -5,7 +5,7 @@ use mathlib.Core.Bool.{true}
 use mathlib.Core.List.{List}
 use Prim.Native.Nat.{ℕ, _+_, _≤_, _<_}
 use Rattle.rule.specs.Order.{flags}
-use Rattle.rule.specs.Cells.{room, flagAt, lowAt, highAt, recordOf, flagsBelow, childrenSmaller, childrenLater, restClear}
+use Rattle.rule.specs.Cells.{flagAt, lowAt, highAt, recordOf, flagsBelow, childrenSmaller, childrenLater, laid}
 use Rattle.rule.specs.Diagram.{allReached, tableOf}
 
 -- "Two nodes of a decision diagram are equivalent if they are either (1) both terminals with the same value, or (2) both internal nodes having the same
@@ -23,11 +23,10 @@ pub record Reduced (c : List ℕ) (used : ℕ) : Type 0 where
 -- An ordered decision diagram in cells: each path asks flags below n in the order's sequence, and every record is on a path from the root. Records stand
 -- behind their children, and the cells past them are 0.
 pub record Ordered (n : ℕ) (order c : List ℕ) (used root : ℕ) : Type 0 where
-  pub fits : used ≤ room c
+  pub is-laid : laid c used ≡ true
   pub below : flagsBelow n c used ≡ true
   pub smaller : childrenSmaller c used ≡ true
   pub later : childrenLater (flags n order) c used ≡ true
-  pub clear : restClear c used ≡ true
   pub root-is : root ≤ used + 1
   pub reached : allReached c used root ≡ true
 

@@ -18,7 +18,8 @@ use Rattle.rule.specs.Diagram.{walk, tableOf}
 use Rattle.theory.proofs.Bits.{length-from, map-below, bit-lt, bit-same, bit-other, setBit-lt, setBit-own}
 use Rattle.theory.proofs.Cofactor.{length-cofactor, cofactor-row, depends-false, not-depends}
 use Rattle.theory.proofs.Sets.{Order, full-lt}
-use Rattle.theory.proofs.Sound.{Sound}
+use Rattle.theory.specs.Level.{levelOf}
+use Rattle.theory.specs.Sound.{Sound}
 use Rattle.theory.proofs.Levels.{level-lt, level-one}
 use Rattle.theory.proofs.Walks.{node, smaller, nodes, childAt, child-is, step-child, step-is, walk-end, walk-record, length-table, table-row, rows-eq}
 
@@ -60,10 +61,6 @@ mix-cofactors n v t l =
     pick r (suc (suc b)) h e q = absurd (omega arith)
 
 -- ---- the levels of nodes
-
--- an end node stands behind all flags, a record at the level of its flag
-unfoldable pub levelOf : ℕ → List ℕ → List ℕ → ℕ → ℕ
-levelOf n order c m = cond (isEnd m) n (level (flags n order) (flagAt c (recordOf m)))
 
 pub level-end : (n : ℕ) (order c : List ℕ) (m : ℕ) → m < 2 → levelOf n order c m ≡ n
 unfolding levelOf

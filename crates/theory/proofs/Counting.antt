@@ -22,7 +22,7 @@ use Rattle.theory.proofs.Tests.{keep-in, in-keep}
 use Rattle.theory.proofs.Perm.{once-map, Once, Within, Exactly, once-set, once-keep, once-from}
 use Rattle.theory.proofs.Friedman.{level-in, in-level, level-once, friedman-nodes, friedman-set}
 use Rattle.theory.proofs.Sets.{Order}
-use Rattle.theory.proofs.Sound.{Sound}
+use Rattle.theory.specs.Sound.{Sound}
 use Rattle.theory.proofs.Levels.{Turn, turn-in, level-one, asked-exactly, asked-turn, whole-turn}
 use Rattle.theory.proofs.Walks.{length-table}
 use Rattle.theory.proofs.Reach.{all-reached, Diagram}

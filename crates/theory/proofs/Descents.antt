@@ -16,11 +16,12 @@ use Rattle.rule.specs.Order.{flags, level}
 use Rattle.rule.specs.Cells.{flagAt, recordOf, isEnd}
 use Rattle.rule.specs.Diagram.{reach, tableOf}
 use Rattle.theory.proofs.Sets.{Order}
-use Rattle.theory.proofs.Sound.{Sound}
+use Rattle.theory.specs.Level.{levelOf}
+use Rattle.theory.specs.Sound.{Sound}
 use Rattle.theory.proofs.Levels.{Turn, level-lt, level-one}
 use Rattle.theory.proofs.Walks.{node, smaller, childAt}
 use Rattle.theory.proofs.Reach.{reach-self, reach-split, reach-from, reach-cases, reach-trans}
-use Rattle.theory.proofs.Canonical.{levelOf, level-end, level-record, child-later, child-le, ignores, record-child}
+use Rattle.theory.proofs.Canonical.{level-end, level-record, child-later, child-le, ignores, record-child}
 
 -- where flag v is b: the child of a record that asks v; another node stays
 unfoldable pub child : List ℕ → ℕ → ℕ → ℕ → ℕ

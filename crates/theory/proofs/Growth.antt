@@ -11,17 +11,11 @@ use Rattle.rule.specs.Order.{flags, level}
 use Rattle.rule.specs.Cells.{width}
 use Rattle.rule.specs.Diagram.{tableOf}
 use Rattle.theory.proofs.Member.{In}
-use Rattle.theory.proofs.Sound.{Sound}
+use Rattle.theory.specs.Growth.{Grows}
+use Rattle.theory.specs.Level.{levelOf}
+use Rattle.theory.specs.Sound.{Sound}
 use Rattle.theory.proofs.Walks.{node, smaller, table-kept, flag-kept}
-use Rattle.theory.proofs.Canonical.{levelOf, level-end, level-record}
-
--- the cells d with `more` records have grown from c with `used`
-pub record Grows (n : ℕ) (order : List ℕ) (goal : List (List ℕ)) (c : List ℕ) (used : ℕ) (d : List ℕ) (more : ℕ) : Type 0 where
-  pub lent : length d ≡ length c
-  pub is-sound : Sound n order d more
-  pub grown : used ≤ more
-  pub old : (i : ℕ) → i < used * width → getD d i 0 ≡ getD c i 0
-  pub within : (k : ℕ) → used ≤ k → k < more → In (tableOf n d (k + 2)) goal
+use Rattle.theory.proofs.Canonical.{level-end, level-record}
 
 pub grows-none : {n used : ℕ} {order c : List ℕ} (goal : List (List ℕ)) → Sound n order c used → Grows n order goal c used c used
 grows-none goal s = record { lent = refl; is-sound = s; grown = omega arith; old = λ i h. refl; within = λ k h l. absurd (omega arith) }

@@ -13,8 +13,9 @@ use lib.Dec.{eqb, leb}
 use Rattle.rule.specs.Cells.{lowAt, highAt, recordOf, sound}
 use Rattle.rule.specs.Diagram.{reachIn, reach, allReached, diagram}
 use Rattle.theory.proofs.Tests.{and-split, and-join, each-below, below-each}
-use Rattle.theory.proofs.Sound.{Sound, sound-view, view-sound}
-use Rattle.theory.proofs.Walks.{node, Smaller, nodes, childAt, child-is}
+use Rattle.theory.specs.Sound.{Sound, Smaller}
+use Rattle.theory.proofs.Sound.{sound-view, view-sound}
+use Rattle.theory.proofs.Walks.{node, nodes, childAt, child-is}
 
 -- ---- reach, node by node
 

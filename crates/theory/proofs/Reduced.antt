@@ -11,8 +11,9 @@ use Rattle.rule.specs.Cells.{flagAt, lowAt, highAt, sound}
 use Rattle.rule.specs.Diagram.{diagram}
 use Rattle.rule.specs.Reduced.{Equivalent, terminals, internal, Reduced, Ordered}
 use Rattle.theory.proofs.Tests.{and-join}
-use Rattle.theory.proofs.Sound.{Sound, flags-below, children-differ, children-smaller, children-later, none-equal, rest-clear}
-use Rattle.theory.proofs.Walks.{Smaller, nodes}
+use Rattle.theory.specs.Sound.{Sound, Smaller}
+use Rattle.theory.proofs.Sound.{flags-below, children-differ, children-smaller, children-later, none-equal, laid-view}
+use Rattle.theory.proofs.Walks.{nodes}
 use Rattle.theory.proofs.Reach.{all-reached, diagram-view}
 
 -- in sound cells equivalent nodes are equal
@@ -43,11 +44,10 @@ module _ (n : ℕ) (order c : List ℕ) (used root : ℕ) where
       let d = diagram-view n order c used root e in
       let s = d .cells in (
         record {
-          fits = s .fits;
+          is-laid = laid-view c used .1 (s .fits, s .clear);
           below = flags-below n c used .1 (s .flag);
           smaller = children-smaller c used .1 (λ k h. (s .low-smaller k h, s .high-smaller k h));
           later = children-later (flags n order) c used .1 (λ k h. (s .low-later k h, s .high-later k h));
-          clear = rest-clear c used .1 (s .clear);
           root-is = d .root-is;
           reached = all-reached c used root .1 (d .reached);
         },
@@ -62,16 +62,14 @@ module _ (n : ℕ) (order c : List ℕ) (used root : ℕ) where
   unfolding diagram sound
   reduced-diagram o r =
       and-join
-      (and-join (le-leb used _ (o .fits))
+      (and-join (o .is-laid)
       (and-join (o .below)
       (and-join (children-differ c used .1 (λ k h q. r .step-i k h (same q (omega (arith, small k h .0)))))
       (and-join (o .smaller)
       (and-join (o .later)
-      (and-join
       (none-equal c used .1 (λ k h j l q.
       let a = small j (omega arith) in
-      r .step-ii j k l h (records c j k (q .0) (same (q .1 .0) (omega arith)) (same (q .1 .1) (omega arith)))))
-      (o .clear)))))))
+      r .step-ii j k l h (records c j k (q .0) (same (q .1 .0) (omega arith)) (same (q .1 .1) (omega arith))))))))))
       (and-join (le-leb root (used + 1) (o .root-is)) (o .reached))
     where
       small : (k : ℕ) → k < used → (lowAt c k < k + 2) × (highAt c k < k + 2)

@@ -8,15 +8,12 @@ use native.Mathlib.Omega.{arith}
 use lib.ListN.{length, getD}
 use Rattle.rule.specs.Bits.{bit, setBit}
 use Rattle.rule.specs.Table.{cofactor, fixings}
+use Rattle.theory.specs.Restrict.{restrict}
 use Rattle.theory.proofs.Member.{In, head, tail, not-nil}
 use Rattle.theory.proofs.Bits.{bit-lt, bit-same, bit-other, bits-eq, setBit-lt}
 use Rattle.theory.proofs.Cofactor.{length-cofactor, cofactor-row}
 use Rattle.theory.proofs.Friedman.{Flags, branch}
 use Rattle.theory.proofs.Perm.{later}
-
-unfoldable pub restrict : List ℕ → ℕ → List ℕ → List ℕ
-restrict [] row t = t
-restrict (v ∷ vs) row t = restrict vs row (cofactor v (bit row v) t)
 
 pub length-restrict : (vs : List ℕ) (row : ℕ) (t : List ℕ) → length (restrict vs row t) ≡ length t
 unfolding restrict

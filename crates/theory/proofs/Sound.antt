@@ -14,7 +14,8 @@ use lib.Seq.{getD-drop}
 use Rattle.rule.specs.Bits.{below}
 use Rattle.rule.specs.Tests.{each}
 use Rattle.rule.specs.Order.{flags, level}
-use Rattle.rule.specs.Cells.{width, room, flagAt, lowAt, highAt, recordOf, flagsBelow, childrenDiffer, childrenSmaller, asksLater, childrenLater, sameRecord, noneEqual, restClear, sound}
+use Rattle.rule.specs.Cells.{width, room, flagAt, lowAt, highAt, recordOf, flagsBelow, childrenDiffer, childrenSmaller, asksLater, childrenLater, sameRecord, noneEqual, restClear, laid, sound}
+use Rattle.theory.specs.Sound.{Sound}
 use Rattle.theory.proofs.Tests.{and-split, and-join, each-below, below-each}
 
 -- ---- the parts, by index
@@ -110,35 +111,32 @@ rest-clear c used = (
   λ f. all-zero (drop (used * width) c) .1 (λ i. getD-drop (used * width) c i 0 ∙ f (used * width + i) (omega arith)),
 )
 
--- ---- sound cells
+-- the used records alone stand in the cells
+pub laid-view : (c : List ℕ) (used : ℕ) → (laid c used ≡ true) ↔ ((used ≤ room c) × ((i : ℕ) → used * width ≤ i → getD c i 0 ≡ 0))
+unfolding laid
+laid-view c used = (
+  λ e. let (a, z) = and-split (leb used (room c)) (restClear c used) e in (leb-true used (room c) a, rest-clear c used .0 z),
+  λ (a, z). and-join (le-leb used (room c) a) (rest-clear c used .1 z),
+)
 
-pub record Sound (n : ℕ) (order c : List ℕ) (used : ℕ) : Type 0 where
-  pub fits : used ≤ room c
-  pub flag : (k : ℕ) → k < used → flagAt c k < n
-  pub differ : (k : ℕ) → k < used → lowAt c k ≡ highAt c k → ⊥
-  pub low-smaller : (k : ℕ) → k < used → lowAt c k < k + 2
-  pub high-smaller : (k : ℕ) → k < used → highAt c k < k + 2
-  pub low-later : (k : ℕ) → k < used → 2 ≤ lowAt c k → level (flags n order) (flagAt c k) < level (flags n order) (flagAt c (recordOf (lowAt c k)))
-  pub high-later : (k : ℕ) → k < used → 2 ≤ highAt c k → level (flags n order) (flagAt c k) < level (flags n order) (flagAt c (recordOf (highAt c k)))
-  pub once : (j k : ℕ) → j < used → k < used → flagAt c j ≡ flagAt c k → lowAt c j ≡ lowAt c k → highAt c j ≡ highAt c k → j ≡ k
-  pub clear : (i : ℕ) → used * width ≤ i → getD c i 0 ≡ 0
+-- ---- sound cells
 
 module _ (n : ℕ) (order c : List ℕ) (used : ℕ) where
   -- what the test says
   pub sound-view : sound n order c used ≡ true → Sound n order c used
   unfolding sound
   sound-view e =
-      let (a, e₁) = and-split (leb used (room c)) _ e in
+      let (a, e₁) = and-split (laid c used) _ e in
       let (b, e₂) = and-split (flagsBelow n c used) _ e₁ in
       let (d, e₃) = and-split (childrenDiffer c used) _ e₂ in
       let (s, e₄) = and-split (childrenSmaller c used) _ e₃ in
-      let (l, e₅) = and-split (childrenLater (flags n order) c used) _ e₄ in
-      let (o, z) = and-split (noneEqual c used) _ e₅ in
+      let (l, o) = and-split (childrenLater (flags n order) c used) _ e₄ in
+      let (fits, clear) = laid-view c used .0 a in
       let small = children-smaller c used .0 s in
       let late = children-later (flags n order) c used .0 l in
       let none = none-equal c used .0 o in
       record {
-        fits = leb-true used (room c) a;
+        fits = fits;
         flag = flags-below n c used .0 b;
         differ = children-differ c used .0 d;
         low-smaller = λ k h. small k h .0;
@@ -146,7 +144,7 @@ module _ (n : ℕ) (order c : List ℕ) (used : ℕ) where
         low-later = λ k h. late k h .0;
         high-later = λ k h. late k h .1;
         once = λ j k hj hk f lo hi. apart j k (λ q. none k hk j q (f, (lo, hi))) (λ q. none j hj k q (sym f, (sym lo, sym hi)));
-        clear = rest-clear c used .0 z;
+        clear = clear;
       }
     where
       apart : (j k : ℕ) → (j < k → ⊥) → (k < j → ⊥) → j ≡ k
@@ -156,14 +154,12 @@ module _ (n : ℕ) (order c : List ℕ) (used : ℕ) where
   pub view-sound : Sound n order c used → sound n order c used ≡ true
   unfolding sound
   view-sound s =
-      and-join (le-leb used (room c) (s .fits))
+      and-join (laid-view c used .1 (s .fits, s .clear))
       (and-join (flags-below n c used .1 (s .flag))
       (and-join (children-differ c used .1 (s .differ))
       (and-join (children-smaller c used .1 (λ k h. (s .low-smaller k h, s .high-smaller k h)))
       (and-join (children-later (flags n order) c used .1 (λ k h. (s .low-later k h, s .high-later k h)))
-      (and-join
-      (none-equal c used .1 (λ k h j l q. let e = s .once j k (omega arith) h (q .0) (q .1 .0) (q .1 .1) in omega arith))
-      (rest-clear c used .1 (s .clear)))))))
+      (none-equal c used .1 (λ k h j l q. let e = s .once j k (omega arith) h (q .0) (q .1 .0) (q .1 .1) in omega arith))))))
 
 -- cleared cells are sound, with no record used
 pub sound-cleared : (n : ℕ) (order : List ℕ) (k : ℕ) → Sound n order (replicate k 0) 0

@@ -18,18 +18,13 @@ use Rattle.rule.specs.Cells.{width, flagAt, lowAt, highAt, recordOf}
 use Rattle.rule.specs.Diagram.{step, walkIn, walk, tableOf}
 use Rattle.theory.proofs.Bits.{length-from, map-below}
 use Rattle.theory.proofs.Tests.{in-each}
-use Rattle.theory.proofs.Sound.{Sound}
+use Rattle.theory.specs.Sound.{Sound, Smaller}
 
 -- ---- nodes
 
 -- a node is an end node or a record
 pub node : (m : ℕ) → (m < 2) ⊎ ((k : ℕ) × (m ≡ k + 2))
 node m = elim (decLt m 2) [ yes h ↦ inl h | no d ↦ inr (m - 2, omega arith) ]
-
--- the children of the used records are smaller than their own nodes
-pub record Smaller (c : List ℕ) (used : ℕ) : Type 0 where
-  pub low : (k : ℕ) → k < used → lowAt c k < k + 2
-  pub high : (k : ℕ) → k < used → highAt c k < k + 2
 
 pub smaller : {n used : ℕ} {order c : List ℕ} → Sound n order c used → Smaller c used
 smaller s = record { low = s .low-smaller; high = s .high-smaller }

@@ -9,9 +9,10 @@ use native.Mathlib.Omega.{arith}
 use Rattle.rule.specs.Order.{flags, level}
 use Rattle.rule.specs.Cells.{flagAt, lowAt, highAt, recordOf}
 use Rattle.cells.proofs.Added.{Added}
-use Rattle.theory.proofs.Sound.{Sound}
+use Rattle.theory.specs.Level.{levelOf}
+use Rattle.theory.specs.Sound.{Sound}
 use Rattle.theory.proofs.Walks.{flag-kept, low-kept, high-kept}
-use Rattle.theory.proofs.Canonical.{levelOf, level-record}
+use Rattle.theory.proofs.Canonical.{level-record}
 use Rattle.unique.specs.Node.{None}
 
 -- a record that the order and the older records allow

@@ -10,10 +10,12 @@ use Rattle.rule.specs.Diagram.{tableOf}
 use Rattle.cells.proofs.Record.{put-length}
 use Rattle.theory.proofs.Member.{In, cast}
 use Rattle.theory.proofs.Sets.{Order}
-use Rattle.theory.proofs.Sound.{Sound}
+use Rattle.theory.specs.Growth.{Grows}
+use Rattle.theory.specs.Level.{levelOf}
+use Rattle.theory.specs.Sound.{Sound}
 use Rattle.theory.proofs.Walks.{smaller, table-kept, length-table}
-use Rattle.theory.proofs.Canonical.{levelOf, level-record, mix, mix-same, table-mix, canonical}
-use Rattle.theory.proofs.Growth.{Grows, grows-none}
+use Rattle.theory.proofs.Canonical.{level-record, mix, mix-same, table-mix, canonical}
+use Rattle.theory.proofs.Growth.{grows-none}
 use Rattle.unique.specs.declared.Grown.{Grown}
 use Rattle.unique.specs.Node.{None, MakesNode, child, old, new, full}
 use Rattle.unique.specs.Search.{Named, Grew}

@@ -5,8 +5,8 @@ use mathlib.Core.List.{List, List·Memᴰ}
 use Prim.Native.Nat.{ℕ, _+_, _≤_, _<_}
 use Rattle.rule.specs.Cells.{room}
 use Rattle.rule.specs.Diagram.{tableOf}
-use Rattle.theory.proofs.Canonical.{levelOf}
-use Rattle.theory.proofs.Growth.{Grows}
+use Rattle.theory.specs.Growth.{Grows}
+use Rattle.theory.specs.Level.{levelOf}
 use Rattle.unique.specs.declared.Grown.{Grown}
 use Rattle.unique.specs.declared.Found.{Found}
 use Rattle.unique.specs.declared.Found.the-variants.{At, Full}

@@ -6,7 +6,7 @@ use lib.ListN.{length}
 use Rattle.rule.specs.Bits.{below}
 use Rattle.rule.specs.Cells.{room, flagAt}
 use Rattle.rule.specs.Diagram.{walk}
-use Rattle.theory.proofs.Walks.{Smaller}
+use Rattle.theory.specs.Sound.{Smaller}
 
 -- records whose flags are below ten and whose children are smaller, and a node among them
 pub record Walkable (c : List ℕ) (used m : ℕ) : Type 0 where

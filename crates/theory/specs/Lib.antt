@@ -1,0 +1,4 @@
+pub mod Sound
+pub mod Level
+pub mod Restrict
+pub mod Growth
