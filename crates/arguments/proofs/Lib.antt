@@ -1,1 +1,3 @@
 pub mod Times
+pub mod Passed
+pub mod Turning

@@ -1,5 +1,5 @@
-pub mod Level
 pub mod Parts
+pub mod Marks
 pub mod Reached
 pub mod Refused
 pub mod Checked

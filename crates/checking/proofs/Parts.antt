@@ -6,8 +6,8 @@ use mathlib.Core.List.{List, [], _∷_}
 use Prim.Native.Nat.{ℕ, _+_, _≤_, _<_}
 use native.Mathlib.Omega.{arith}
 use borrow.Author.Count.{below-more}
-use borrow.Author.Tests.{eqb-true, eq-eqb, ne-eqb, lt-ltb, le-leb, lt-leb, not-true, not-false}
-use lib.Dec.{eqb, leb}
+use borrow.Author.Tests.{eqb-true, eq-eqb, ne-eqb, ltb-true, lt-ltb, le-leb, lt-leb, not-true, not-false}
+use lib.Dec.{eqb, leb, ltb}
 use Rattle.rule.specs.Bits.{below}
 use Rattle.rule.specs.Tests.{each}
 use Rattle.rule.specs.Order.{flags}
@@ -16,7 +16,8 @@ use Rattle.cells.proofs.Fit.{fit-length}
 use Rattle.theory.proofs.Tests.{and-split, below-each}
 use Rattle.theory.proofs.Scan.{fails-below}
 use Rattle.theory.proofs.Sound.{sound-view}
-use Rattle.checking.specs.Record.{isNew, fitRecord}
+use Rattle.arguments.specs.declared.level.Levels.{Levels}
+use Rattle.checking.specs.Record.{isNew, fitRecord, Child, Next}
 
 pub fails : (b : Bool) → (b ≡ true → ⊥) → b ≡ false
 fails true d = absurd (d refl)
@@ -50,6 +51,12 @@ pub record Fields (n : ℕ) (c : List ℕ) (k flag low high : ℕ) : Type 0 wher
   pub low-smaller : low < k + 2
   pub high-smaller : high < k + 2
 
+-- a smaller node is a child that the order can be asked of
+pub next-child : {levels : Levels} {c index : List ℕ} {k flag low high : ℕ} → Next levels c k index → Fields (levels .n) c k flag low high
+    → (m : ℕ) → m < k + 2 → Child levels c flag m
+next-child x f m h =
+    record { turned = x .turned; flag = f .below-n; node = omega (arith, x .fits); child-flag = λ g. x .flags _ (omega arith) }
+
 module _ (n : ℕ) (order c : List ℕ) (k flag low high : ℕ) (fields : Fields n c k flag low high) where
   fit-rest : fitRecord n order c k ≡ ((asksLater order c flag low && asksLater order c flag high) && isNew c k)
   unfolding fitRecord
@@ -78,6 +85,10 @@ module _ (n : ℕ) (order c : List ℕ) (k flag low high : ℕ) (fields : Fields
 
 -- ---- all records
 
+fit-flag : (n : ℕ) (order c : List ℕ) (k : ℕ) → fitRecord n order c k ≡ true → flagAt c k < n
+unfolding fitRecord
+fit-flag n order c k e = ltb-true (flagAt c k) n (and-split (ltb (flagAt c k) n) _ e .0)
+
 -- of the used records those before k are sound
 pub record Fitting (n : ℕ) (order c : List ℕ) (used k : ℕ) : Type 0 where
   pub within : k ≤ used
@@ -91,6 +102,9 @@ module _ (n : ℕ) (order c : List ℕ) (used : ℕ) where
       → Fitting n order c used (k + 1)
   fitting-more k {a} p h e f =
       record { within = omega arith; fit = below-more _ _ (p .fit) (sym e ∙ not-false a f) }
+
+  pub fitting-flags : (k : ℕ) → Fitting n order c used k → (j : ℕ) → j < k → flagAt c j < n
+  fitting-flags k p j h = fit-flag n order c j (p .fit j h)
 
   pub fitting-not : (k : ℕ) {a : Bool} → k < used → a ≡ fitRecord n order c k → not a ≡ true → false ≡ each (fitRecord n order c) (below used)
   fitting-not k {a} h e f = sym (fails-below _ used k h (sym e ∙ not-true a f))

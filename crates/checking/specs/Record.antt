@@ -1,12 +1,15 @@
 -- The parts of sound cells, record by record: what crate rule says of all used records, said of record k.
 -- Assumes nothing.
-use mathlib.Core.Bool.{Bool, not, _&&_, _||_}
+use mathlib.Core.Bool.{Bool, not, _&&_}
 use mathlib.Core.List.{List}
-use Prim.Native.Nat.{ℕ, _+_}
+use Prim.Native.Nat.{ℕ, _+_, _≤_, _<_}
 use lib.Dec.{eqb, ltb}
 use Rattle.rule.specs.Bits.{below}
 use Rattle.rule.specs.Tests.{each}
-use Rattle.rule.specs.Cells.{flagAt, lowAt, highAt, asksLater, sameRecord}
+use Rattle.rule.specs.Cells.{room, flagAt, lowAt, highAt, recordOf, asksLater, sameRecord}
+use Rattle.arguments.specs.declared.level.Levels.{Levels}
+use Rattle.arguments.specs.Level.{Turned}
+use Rattle.unique.specs.Index.{Indexed}
 
 -- record k equals none before it
 unfoldable pub isNew : List ℕ → ℕ → Bool
@@ -20,10 +23,17 @@ fitRecord n order c k =
     && ((ltb (lowAt c k) (k + 2) && ltb (highAt c k) (k + 2))
     && ((asksLater order c (flagAt c k) (lowAt c k) && asksLater order c (flagAt c k) (highAt c k)) && isNew c k)))
 
--- record j has record k for a child
-unfoldable pub isParent : List ℕ → ℕ → ℕ → Bool
-isParent c j k = eqb (lowAt c j) (k + 2) || eqb (highAt c j) (k + 2)
+-- a flag below n, and a node that is an end node or a record that asks such a flag
+pub record Child (levels : Levels) (c : List ℕ) (v m : ℕ) : Type 0 where
+  pub turned : Turned levels
+  pub flag : v < levels .n
+  pub node : m ≤ room c + 1
+  pub child-flag : 2 ≤ m → flagAt c (recordOf m) < levels .n
 
--- no used record has record k for a child
-unfoldable pub orphan : List ℕ → ℕ → ℕ → Bool
-orphan c used k = each (λ j. not (isParent c j k)) (below used)
+-- record k is the next to be tested: those before it ask flags below n, and are entered in the index
+pub record Next (levels : Levels) (c : List ℕ) (k : ℕ) (index : List ℕ) : Type 0 where
+  pub turned : Turned levels
+  pub fits : k < room c
+  pub few : room c ≤ 1024
+  pub flags : (j : ℕ) → j < k → flagAt c j < levels .n
+  pub indexed : Indexed c k index

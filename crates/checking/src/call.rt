@@ -8,11 +8,21 @@ ghost use mathlib.Core.List.{[], _∷_};
 ghost use Rattle.rule.specs.Refusals.{refusal, flagCount, orderPlaces, cells as lentCells, records};
 ghost use Rattle.rule.specs.Answers.{countedReply};
 ghost use Rattle.rule.specs.Calls.{Check};
+ghost use Rattle.unique.specs.Index.{emptyIndex, Indexed};
 
 // The refusal of lent cells with so many used records, 0 for none: 1, 4, 5, then 6.
-pub fn records_refusal(n: u8, order: Order, cells: &[u16], used: u16) -> u8
-    ensures { λ r. ⌜ r
-        ≡ refusal (flagCount n ∷ orderPlaces n (order .places) ∷ lentCells (now (cells .entry)) ∷ records n (order .places) (now (cells .entry)) used ∷ []) ⌝ }
+// Where there is none, the used records are entered in the index.
+pub fn records_refusal(
+    n: u8,
+    order: Order,
+    cells: &[u16],
+    used: u16,
+    index: &mut [u16; unique::INDEX],
+) -> u8
+    requires { ⌜ now index ≡ emptyIndex ⌝ }
+    ensures { λ r. ⌜ (r
+        ≡ refusal (flagCount n ∷ orderPlaces n (order .places) ∷ lentCells (now (cells .entry)) ∷ records n (order .places) (now (cells .entry)) used ∷ []))
+        × (r ≡ 0 → Indexed (now (cells .entry)) used (now (index .exit))) ⌝ }
 {
     let refused = arguments::order_refusal(n, order);
     if refused != 0 {
@@ -21,7 +31,7 @@ pub fn records_refusal(n: u8, order: Order, cells: &[u16], used: u16) -> u8
     if !cells::fit_cells(cells) {
         return 5;
     }
-    if !sound(n, order, cells, used) {
+    if !sound(n, order, cells, used, index) {
         return 6;
     }
     0
@@ -31,7 +41,8 @@ pub fn records_refusal(n: u8, order: Order, cells: &[u16], used: u16) -> u8
 pub fn check(n: u8, order: Order, cells: &[u16], used: u16, root: Node) -> Counted
     ensures { λ r. ⌜ Check n (order .places) (now (cells .entry)) used (root .number) (countedReply r) ⌝ }
 {
-    let refused = records_refusal(n, order, cells, used);
+    let mut index = [0u16; unique::INDEX];
+    let refused = records_refusal(n, order, cells, used, &mut index);
     if refused != 0 {
         return Counted::Refused(refused);
     }

@@ -1,12 +1,13 @@
 -- What the unique table makes is the node of the joined rule, or shows that the store lacks its record.
 -- Assumes nothing.
-use mathlib.Core.Path.{_≡_, sym, ap, _∙_}
-use mathlib.Core.List.{List}
+use mathlib.Core.Path.{_≡_, refl, sym, ap, _∙_}
+use mathlib.Core.List.{List, [], _∷_}
 use Prim.Native.Nat.{ℕ, _+_, _≤_, _<_}
 use native.Mathlib.Omega.{arith}
 use lib.ListN.{length}
 use Rattle.rule.specs.Order.{flags, level}
 use Rattle.rule.specs.Diagram.{tableOf}
+use Rattle.rule.specs.Reply.{Reply, accepted, refused, numberOf}
 use Rattle.cells.proofs.Record.{put-length}
 use Rattle.theory.proofs.Member.{In, cast}
 use Rattle.theory.proofs.Sets.{Order}
@@ -16,11 +17,30 @@ use Rattle.theory.specs.Sound.{Sound}
 use Rattle.theory.proofs.Walks.{smaller, table-kept, length-table}
 use Rattle.theory.proofs.Canonical.{level-record, mix, mix-same, table-mix, canonical}
 use Rattle.theory.proofs.Growth.{grows-none}
-use Rattle.unique.specs.declared.Grown.{Grown}
-use Rattle.unique.specs.Node.{None, MakesNode, child, old, new, full}
+use Rattle.unique.specs.declared.node.Grown.{Grown}
+use Rattle.unique.specs.declared.node.Found.{Found}
+use Rattle.unique.specs.declared.node.Found.the-variants.{At, Full}
+use Rattle.unique.specs.Node.{foundReply, None, MakesNode, child, old, new, full}
 use Rattle.unique.specs.Search.{Named, Grew}
 use Rattle.cells.proofs.Added.{Added, added-put, added-longer}
 use Rattle.unique.proofs.Extend.{Allowed, extended}
+
+-- ---- an answer by its reply
+
+found-at : (x : Found) (m : ℕ) → accepted (m ∷ []) ≡ foundReply x → x ≡ At m
+found-at (At k) m e = ap (λ (r : Reply). At (first r)) (sym e)
+  where
+    first : Reply → ℕ
+    first (accepted []) = 0
+    first (accepted (y ∷ ys)) = y
+    first (refused y ys) = 0
+found-at Full m e = let q : _≡_ {A = ℕ} 0 10 = ap numberOf e in absurd (omega arith)
+
+found-full : (x : Found) → refused 10 (0 ∷ []) ≡ foundReply x → x ≡ Full
+found-full (At k) e = let q : _≡_ {A = ℕ} 10 0 = ap numberOf e in absurd (omega arith)
+found-full Full e = refl
+
+-- ---- the node that is made
 
 -- a flag and two older nodes at later levels
 pub record Branch (n : ℕ) (order c : List ℕ) (used v low high : ℕ) : Type 0 where
@@ -71,31 +91,40 @@ module _ {n used v low high : ℕ} {order c : List ℕ} (s : Sound n order c use
     added-named =
         record { node = omega arith; table = added-table; later = omega (arith, level-record n order d used, ap (level (flags n order)) (x .flag-is)) }
 
-  pub made : {r : Grown} {d : List ℕ} → MakesNode c used v low high r d
-      → Grew n order goal (level (flags n order) v) (mix v (tableOf n c low) (tableOf n c high)) c used r d
-  made (child e) =
-      record {
+  -- each case of the answer
+  answered : (x : Found) {more : ℕ} {p : Reply} {d : List ℕ} → p ≡ foundReply x → MakesNode c used v low high more p d
+      → Grew n order goal (level (flags n order) v) (mix v (tableOf n c low) (tableOf n c high)) c used (record { used = more; found = x }) d
+  answered x q (child e) =
+      rw (found-at x low q)
+      (record {
         grows = grows-none goal s;
         is = record {
           node = b .low-old;
           table = sym (ap (λ (m : ℕ). mix v (tableOf n c low) (tableOf n c m)) (sym e) ∙ mix-same n v (tableOf n c low) (length-table n c low));
           later = omega (arith, b .low-later);
         };
-      }
-  made (old _ k h _ is) =
-      record {
+      })
+  answered x q (old _ k h is) =
+      rw (found-at x (k + 2) q)
+      (record {
         grows = grows-none goal s;
         is = record {
           node = omega arith;
           table = table-mix s o k h ∙ rw (is .flag-is, is .low-is, is .high-is);
           later = omega (arith, level-record n order c k, ap (level (flags n order)) (is .flag-is));
         };
-      }
-  made (new differ none space) =
-      let x = added-put v low high (s .fits) (s .clear) space in
-      record { grows = added-grows differ none x (put-length c used v low high); is = added-named differ none x }
-  made (full differ none e) =
-      record {
+      })
+  answered x q (new differ none space) =
+      let a = added-put v low high (s .fits) (s .clear) space in
+      rw (found-at x (used + 2) q)
+      (record { grows = added-grows differ none a (put-length c used v low high); is = added-named differ none a })
+  answered x q (full differ none e) =
+      rw (found-full x q)
+      (record {
         grows = grows-none goal s;
         is = record { full = e; missing = _; called = call differ; absent = added-new differ none (added-longer v low high (s .fits) (s .clear)) };
-      }
+      })
+
+  pub made : {r : Grown} {d : List ℕ} → MakesNode c used v low high (r .used) (foundReply (r .found)) d
+      → Grew n order goal (level (flags n order) v) (mix v (tableOf n c low) (tableOf n c high)) c used r d
+  made {r} m = answered (r .found) refl m

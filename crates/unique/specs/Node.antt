@@ -1,12 +1,19 @@
 -- What the unique table finds and adds.
 -- Assumes nothing.
 use mathlib.Core.Path.{_≡_}
-use mathlib.Core.List.{List}
+use mathlib.Core.List.{List, [], _∷_}
 use Prim.Native.Nat.{ℕ, _+_, _≤_, _<_}
 use Rattle.rule.specs.Cells.{room, flagAt, lowAt, highAt}
+use Rattle.rule.specs.Reply.{Reply, accepted, refused}
 use Rattle.cells.specs.Record.{putRecord}
-use Rattle.unique.specs.declared.Grown.{Grown}
-use Rattle.unique.specs.declared.Found.the-variants.{At, Full}
+use Rattle.unique.specs.declared.node.Grown.{Grown}
+use Rattle.unique.specs.declared.node.Found.{Found}
+use Rattle.unique.specs.declared.node.Found.the-variants.{At, Full}
+
+-- the paper's number and value for every case of the enum: the node, or "records needed exceed those free"
+abbrev pub foundReply : Found → Reply
+foundReply (At m) = accepted (m ∷ [])
+foundReply Full = refused 10 (0 ∷ [])
 
 -- record k is these three
 pub record Is (c : List ℕ) (k flag low high : ℕ) : Type 0 where
@@ -18,19 +25,19 @@ pub record Is (c : List ℕ) (k flag low high : ℕ) : Type 0 where
 abbrev pub None : List ℕ → ℕ → ℕ → ℕ → ℕ → Type 0
 None c n flag low high = (k : ℕ) → k < n → Is c k flag low high → ⊥
 
--- r is the first of the used records that is these three, or `used` where none is
+-- r is a used record that is these three, or `used` where none is. (In sound cells there is one at most.)
 pub record Finds (c : List ℕ) (used flag low high r : ℕ) : Type 0 where
   pub most : r ≤ used
-  pub before : None c r flag low high
   pub there : r < used → Is c r flag low high
+  pub none : r ≡ used → None c used flag low high
 
 abbrev pub grown : ℕ → ℕ → Grown
 grown used m = record { used = used; found = At m }
 
--- the node of a flag and two children: the child where they are one; the first old record that is it; a new one where there is room; or no room
-pub data MakesNode (c : List ℕ) (used flag low high : ℕ) : Grown → List ℕ → Type 0 where
-  child : low ≡ high → MakesNode c used flag low high (grown used low) c
-  old : (low ≡ high → ⊥) → (k : ℕ) → k < used → None c k flag low high → Is c k flag low high → MakesNode c used flag low high (grown used (k + 2)) c
+-- the node of a flag and two children: the child where they are one; an old record that is it; a new one where there is room; or no room
+pub data MakesNode (c : List ℕ) (used flag low high : ℕ) : ℕ → Reply → List ℕ → Type 0 where
+  child : low ≡ high → MakesNode c used flag low high used (accepted (low ∷ [])) c
+  old : (low ≡ high → ⊥) → (k : ℕ) → k < used → Is c k flag low high → MakesNode c used flag low high used (accepted ((k + 2) ∷ [])) c
   new : (low ≡ high → ⊥) → None c used flag low high → used < room c
-      → MakesNode c used flag low high (grown (used + 1) (used + 2)) (putRecord c used flag low high)
-  full : (low ≡ high → ⊥) → None c used flag low high → used ≡ room c → MakesNode c used flag low high (record { used = used; found = Full }) c
+      → MakesNode c used flag low high (used + 1) (accepted ((used + 2) ∷ [])) (putRecord c used flag low high)
+  full : (low ≡ high → ⊥) → None c used flag low high → used ≡ room c → MakesNode c used flag low high used (refused 10 (0 ∷ [])) c

@@ -7,9 +7,9 @@ use Rattle.rule.specs.Cells.{room}
 use Rattle.rule.specs.Diagram.{tableOf}
 use Rattle.theory.specs.Growth.{Grows}
 use Rattle.theory.specs.Level.{levelOf}
-use Rattle.unique.specs.declared.Grown.{Grown}
-use Rattle.unique.specs.declared.Found.{Found}
-use Rattle.unique.specs.declared.Found.the-variants.{At, Full}
+use Rattle.unique.specs.declared.node.Grown.{Grown}
+use Rattle.unique.specs.declared.node.Found.{Found}
+use Rattle.unique.specs.declared.node.Found.the-variants.{At, Full}
 
 -- node m is rule t, and asks no flag above level l
 pub record Named (n : ℕ) (order : List ℕ) (l : ℕ) (t d : List ℕ) (more m : ℕ) : Type 0 where

@@ -13,14 +13,14 @@ use Rattle.checking.proofs.call.check.Tie as tie
 returns : tie.Need-returns
 returns c =
     let at = c .before in
-    let s = at .before .before .args in
-    check-refused (s .n) (s .order .places) (now (s .cells)) (s .used) (s .root .number) (at .records-refusal .ensures) (c .if1 .taken)
+    let s = at .before .before .before .args in
+    check-refused (s .n) (s .order .places) (now (s .cells)) (s .used) (s .root .number) (at .records-refusal .ensures .0) (c .if1 .taken)
 
 -- past the first test the cells are taken
-taken : (c : tie.Else1) → let s = c .before .before .before .args in Taken (s .n) (s .order .places) (now (s .cells)) (s .used)
+taken : (c : tie.Else1) → let s = c .before .before .before .before .args in Taken (s .n) (s .order .places) (now (s .cells)) (s .used)
 taken c =
-    let s = c .before .before .before .args in
-    rows-passed (s .n) (s .order .places) (now (s .cells)) (s .used) (c .before .records-refusal .ensures) (c .if1 .left)
+    let s = c .before .before .before .before .args in
+    rows-passed (s .n) (s .order .places) (now (s .cells)) (s .used) (c .before .records-refusal .ensures .0) (c .if1 .left)
 
 add-if2 : tie.Need-add-if2
 add-if2 c =
@@ -31,18 +31,18 @@ add-if2 c =
 
 returns-2 : tie.Need-returns-2
 returns-2 c =
-    let s = c .before .before .before .before .args in
+    let s = c .before .before .before .before .before .args in
     check-far (s .n) (s .order .places) (now (s .cells)) (s .used) (s .root .number) (taken (c .before)) (c .if2 .taken)
 
 all-reached-requires : tie.Need-all-reached-requires
 all-reached-requires c κs =
     let t = taken (c .before) in
-    (sound-room _ _ _ _ (t .is-sound), sound-smaller _ _ _ _ (t .is-sound), c .if2 .left)
+    (sound-room _ _ _ _ (t .is-sound), fit-room _ (t .lent), sound-smaller _ _ _ _ (t .is-sound), c .if2 .left)
 
 returns-3 : tie.Need-returns-3
 returns-3 c =
     let at = c .before .before in
-    let s = at .before .before .before .before .args in
+    let s = at .before .before .before .before .before .args in
     check-apart (s .n) (s .order .places) (now (s .cells)) (s .used) (s .root .number)
     (taken (at .before))
     (at .if2 .left)
@@ -52,7 +52,7 @@ returns-3 c =
 returns-4 : tie.Need-returns-4
 returns-4 c =
     let at = c .before .before in
-    let s = at .before .before .before .before .args in
+    let s = at .before .before .before .before .before .args in
     check-whole (s .n) (s .order .places) (now (s .cells)) (s .used) (s .root .number)
     (taken (at .before))
     (at .if2 .left)

@@ -1,21 +1,22 @@
 -- `checking::record::fit_record` meets its contract: each way rewrites with the tests that led to it.
 -- Assumes nothing.
+use Prim.Native.Nat.{ℕ, _+_, _<_}
 use borrow.Author.Needs.{needs}
 use borrow.Author.Tests.{lt-ltb, le-ltb, eq-eqb, ne-eqb}
 use denote.Ref.{now}
-use Rattle.checking.specs.Record.{fitRecord}
-use Rattle.checking.proofs.Parts.{Fields, fit-new, fit-not-low, fit-not-high}
+use Rattle.checking.specs.Record.{fitRecord, Child}
+use Rattle.checking.proofs.Parts.{Fields, next-child, fit-new, fit-not-low, fit-not-high}
 use Rattle.checking.proofs.record.fit_record.Statement.{statement}
 use Rattle.checking.proofs.record.fit_record.Tie as tie
 
 returns : tie.Need-returns
 unfolding fitRecord
-returns c = rw (← c .before .before .before .flag-at .ensures, le-ltb _ _ (c .if1 .taken))
+returns c = rw (← c .before .before .before .before .flag-at .ensures, le-ltb _ _ (c .if1 .taken))
 
 returns-2 : tie.Need-returns-2
 unfolding fitRecord
 returns-2 c =
-    let h = c .before .before in
+    let h = c .before .before .before in
     rw (
       ← h .before .before .flag-at .ensures,
       ← h .before .low-at .ensures,
@@ -28,7 +29,7 @@ returns-3 : tie.Need-returns-3
 unfolding fitRecord
 returns-3 c =
     let at = c .before in
-    let h = at .before .before in
+    let h = at .before .before .before in
     rw (
       ← h .before .before .flag-at .ensures,
       ← h .before .low-at .ensures,
@@ -42,7 +43,7 @@ returns-4 : tie.Need-returns-4
 unfolding fitRecord
 returns-4 c =
     let at = c .before .before in
-    let h = at .before .before in
+    let h = at .before .before .before in
     rw (
       ← h .before .before .flag-at .ensures,
       ← h .before .low-at .ensures,
@@ -55,11 +56,11 @@ returns-4 c =
 
 -- the tests before those of the order are passed
 passed : (c : tie.Else4)
-    → let h = c .before .before .before .before in
+    → let h = c .before .before .before .before .before in
     let s = h .before .before .before .before in
-    Fields (s .args .n) (now (s .args .cells)) (s .args .k) (h .before .before .flag-at .result) (h .before .low-at .result) (h .high-at .result)
+    Fields (s .args .levels .n) (now (s .args .cells)) (s .args .k) (h .before .before .flag-at .result) (h .before .low-at .result) (h .high-at .result)
 passed c =
-    let h = c .before .before .before .before in
+    let h = c .before .before .before .before .before in
     record {
       flag-is = h .before .before .flag-at .ensures;
       low-is = h .before .low-at .ensures;
@@ -69,6 +70,13 @@ passed c =
       low-smaller = c .before .if3 .left;
       high-smaller = c .if4 .left;
     }
+
+-- a child that the tests before those of the order passed
+child : (c : tie.Else4) (m : ℕ)
+    → let h = c .before .before .before .before .before in
+    let s = h .before .before .before .before in
+    m < s .args .k + 2 → Child (s .args .levels) (now (s .args .cells)) (h .before .before .flag-at .result) m
+child c m l = next-child (c .before .before .before .before .before .before .before .before .before .pre) (passed c) m l
 
 returns-5 : tie.Need-returns-5
 returns-5 c =
@@ -101,14 +109,13 @@ fit-record-spec =
     (λ c κs. search needs)
     (λ c κs. search needs)
     (λ c. search needs)
+    (λ c. search needs)
     returns
     returns-2
-    (λ c. search needs)
     returns-3
-    (λ c. search needs)
     returns-4
-    (λ c κs. search needs)
-    (λ c κs. search needs)
+    (λ c κs. child c _ (c .before .if3 .left))
+    (λ c κs. child (c .before .before) _ (c .before .before .if4 .left))
     (λ c κs. search needs)
     returns-5
     returns-6

@@ -19,7 +19,7 @@ returns c =
     sym (below-each _ _ (λ i h.
     ap not (other-record _ _ _
     (λ p q r.
-    c .before .find .ensures .before i (omega arith) (record {
+    c .before .find .ensures .none (c .if1 .taken) i h (record {
       flag-is = p ∙ sym (own .before .before .flag-at .ensures);
       low-is = q ∙ sym (own .before .low-at .ensures);
       high-is = r ∙ sym (own .high-at .ensures);

@@ -9,11 +9,11 @@ use Rattle.walking.proofs.call.walk.Statement.{statement}
 use Rattle.walking.proofs.call.walk.Tie as tie
 
 -- the cells were taken
-taken : (c : tie.Else1) → Taken (c .before .before .before .args .n) (c .before .before .before .args .order .places) (c .before .before .before .args .cells .now) (c .before .before .before .args .used)
-taken c = rows-passed _ _ _ _ (c .before .records-refusal .ensures) (c .if1 .left)
+taken : (c : tie.Else1) → Taken (c .before .before .before .before .args .n) (c .before .before .before .before .args .order .places) (c .before .before .before .before .args .cells .now) (c .before .before .before .before .args .used)
+taken c = rows-passed _ _ _ _ (c .before .records-refusal .ensures .0) (c .if1 .left)
 
 returns : tie.Need-returns
-returns c = walk-refused _ _ _ _ _ _ (c .before .records-refusal .ensures) (c .if1 .taken)
+returns c = walk-refused _ _ _ _ _ _ (c .before .records-refusal .ensures .0) (c .if1 .taken)
 
 returns-2 : tie.Need-returns-2
 returns-2 c = walk-far _ _ _ _ _ _ (taken (c .before)) (c .if2 .taken)
@@ -39,5 +39,5 @@ walk-spec =
     (λ c κs. walkable (taken (c .before .before .before)) (c .before .before .if2 .left))
     (λ c.
     let w = walkable (taken (c .before .before .before .before)) (c .before .before .before .if2 .left) in
-    omega (arith, c .descend .ensures, walk-lt (w .smaller) _ (c .before .before .before .before .before .before .before .args .row) (w .node)))
+    omega (arith, c .descend .ensures, walk-lt (w .smaller) _ (c .before .before .before .before .before .before .before .before .args .row) (w .node)))
     returns-4)
