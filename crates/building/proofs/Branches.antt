@@ -29,7 +29,7 @@ use Rattle.theory.specs.Sound.{Sound}
 use Rattle.theory.proofs.Sound.{sound-view, view-sound}
 use Rattle.theory.proofs.Walks.{walk-end, length-table, table-row, rows-eq}
 use Rattle.theory.proofs.Canonical.{level-end, mix, mix-cofactors, canonical}
-use Rattle.theory.proofs.Counting.{nodes-is}
+use Rattle.theory.proofs.Nodes.{nodes-is}
 use Rattle.theory.proofs.Restrict.{length-restrict, restrict-in, restrict-snoc, restrict-agree, restrict-all}
 use Rattle.theory.proofs.Growth.{grows-none, grows-more, older, older-level}
 use Rattle.unique.specs.declared.Grown.{Grown}

@@ -5,6 +5,7 @@ use mathlib.Core.Logic.{_≢_, inl, inr}
 use mathlib.Core.Bool.{true, false, not, true≢false}
 use mathlib.Core.List.{List}
 use Prim.Native.Nat.{ℕ, _^_, _<_}
+use native.Mathlib.Decide.{ℕ-discrete}
 use native.Mathlib.Omega.{arith}
 use lib.Dec.{ltb}
 use lib.ListN.{length, getD, length-map}
@@ -72,6 +73,18 @@ module _ (n : ℕ) (t : List ℕ) (fit : length t ≡ 2 ^ n) where
   pub cofactor-free : (i b : ℕ) → i < n → depends i (cofactor i b t) ≡ false
   cofactor-free i b i<n =
       not-depends i (cofactor i b t) (cofactor-twice n t fit i 0 b i<n (omega arith) ∙ sym (cofactor-twice n t fit i 1 b i<n (omega arith)))
+
+  -- nor on one that the table does not depend on
+  pub cofactor-keeps : (v i b : ℕ) → v < n → i < n → b < 2 → depends v t ≡ false → depends v (cofactor i b t) ≡ false
+  cofactor-keeps v i b v<n i<n b<2 d =
+      elim (ℕ-discrete v i) [
+        | yes e ↦ rw e (cofactor-free i b i<n)
+        | no q ↦
+            not-depends v (cofactor i b t)
+            (cofactor-comm n t fit v i 0 b v<n i<n (omega arith) b<2 q
+            ∙ ap (cofactor i b) (depends-false v t d)
+            ∙ sym (cofactor-comm n t fit v i 1 b v<n i<n (omega arith) b<2 q))
+      ]
 
 -- ---- answers 0 and 1
 
