@@ -1,20 +1,22 @@
--- The nodes of a rule's diagram under an order, level by level, each once: a node depends on its own flag, and a node of a later level does not.
+-- The nodes of a rule's diagram under an order, level by level: each stands once, since it depends on its own flag and a node of a later level does not, and
+-- those of a cofactor by the first flag are among them.
 -- Assumes nothing.
-use mathlib.Core.Path.{_≡_, refl, sym, _∙_, subst}
+use mathlib.Core.Path.{_≡_, refl, sym, ap, _∙_, subst}
 use mathlib.Core.Logic.{inl, inr, _↔_}
-use mathlib.Core.Bool.{false, true≢false}
+use mathlib.Core.Bool.{true, false, true≢false}
 use mathlib.Core.List.{List, [], _∷_}
-use Prim.Native.Nat.{ℕ, suc, _^_, _<_}
+use Prim.Native.Nat.{ℕ, suc, _+_, _^_, _<_}
 use native.Mathlib.Nat.{eq-or-lt-of-le, le-of-suc-le-suc}
+use native.Mathlib.Decide.{ℕ-discrete, decLt}
 use native.Mathlib.Omega.{arith}
 use lib.ListN.{length}
 use Rattle.rule.specs.Table.{cofactor, depends, fixings}
 use Rattle.rule.specs.Level.{levelNodes, nodesFrom, nodesOf}
 use Rattle.rule.specs.Order.{askedBefore, level}
 use Rattle.theory.proofs.Member.{In, head, tail, not-nil, cases-cons, eq-of-singleton, append-cases, append-left, append-right}
-use Rattle.theory.proofs.Perm.{Once, Within, Exactly, once-append}
-use Rattle.theory.proofs.Cofactor.{length-cofactor, cofactor-free, cofactor-keeps}
-use Rattle.theory.proofs.Friedman.{Flags, unbranch, level-in, level-once, friedman-nodes}
+use Rattle.theory.proofs.Perm.{Once, Within, Exactly, later, once-append}
+use Rattle.theory.proofs.Cofactor.{length-cofactor, cofactor-comm, cofactor-twice, cofactor-own, cofactor-free, cofactor-keeps}
+use Rattle.theory.proofs.Friedman.{Flags, branch, unbranch, level-in, in-level, level-once, friedman-nodes}
 use Rattle.theory.proofs.Sets.{Order}
 use Rattle.theory.proofs.Levels.{Turn, level-one, asked-exactly, whole-turn}
 
@@ -81,12 +83,9 @@ module _ {n : ℕ} {o : List ℕ} (p : Order n o) (t : List ℕ) (h : length t �
     λ (v, i, k). level-nodes o [] 0 (whole-turn p) (none-lower n o) v (p .whole v i) k,
   )
 
--- ---- each node once
+-- ---- the rules that arise by fixing flags
 
 module _ (n : ℕ) where
-  flags-next : {v : ℕ} {l : List ℕ} → Flags n l → v < n → Flags n (v ∷ l)
-  flags-next f h i m = elim (cases-cons m) [ inl e ↦ rw e h | inr k ↦ f i k ]
-
   -- what the rule does not depend on, no rule that arises from it depends on
   fixings-keep : (v : ℕ) (l t : List ℕ) → length t ≡ 2 ^ n → v < n → Flags n l → depends v t ≡ false → {u : List ℕ} → In u (fixings l t) → depends v u ≡ false
   unfolding fixings
@@ -106,13 +105,41 @@ module _ (n : ℕ) where
         | inr j ↦ fixings-free v l (cofactor w b t) fit′ (λ j q. f j (tail q)) j k
       ]
 
+-- a rule arises from itself where the flags that are fixed are no flags of its own
+fixings-own : (l t : List ℕ) → ((i : ℕ) → In i l → depends i t ≡ false) → In t (fixings l t)
+unfolding fixings
+fixings-own [] t f = head refl
+fixings-own (i ∷ l) t f =
+    branch i l t 0 (omega arith) (rw (cofactor-own i 0 t (omega arith) (f i (head refl))) (fixings-own l t (λ j q. f j (tail q))))
+
+-- what arises from a cofactor by fixing its flag among others arises from the rule
+fixings-again : (n v b : ℕ) → v < n → b < 2 → (l t : List ℕ) → length t ≡ 2 ^ n → Flags n l → In v l → Within (fixings l (cofactor v b t)) (fixings l t)
+fixings-again n v b v<n b<2 [] t fit f i u m = absurd (not-nil i)
+fixings-again n v b v<n b<2 (w ∷ l) t fit f i u m =
+    let (a, a<2, k) = unbranch w l (cofactor v b t) m in
+    elim (ℕ-discrete w v) [
+      | yes e ↦
+          let q : cofactor w a (cofactor v b t) ≡ cofactor v b t = ap (λ (x : ℕ). cofactor x a (cofactor v b t)) e ∙ cofactor-twice n t fit v a b v<n a<2 in
+          branch w l t b b<2 (rw e (rw q at k))
+      | no d ↦
+          branch w l t a a<2
+          (fixings-again n v b v<n b<2 l (cofactor w a t) (length-cofactor w a t ∙ fit) (λ j q. f j (tail q)) (later d i) u
+          (rw (cofactor-comm n t fit w v a b (f w (head refl)) v<n a<2 b<2 d) at k))
+    ]
+
+-- ---- each node once
+
+module _ (n : ℕ) where
+  flags-next : {v : ℕ} {l : List ℕ} → Flags n l → v < n → Flags n (v ∷ l)
+  flags-next f h i m = elim (cases-cons m) [ inl e ↦ rw e h | inr k ↦ f i k ]
+
   nodes-free : (v : ℕ) (vs before t : List ℕ) → length t ≡ 2 ^ n → Flags n before → Flags n vs → In v before → {u : List ℕ}
       → In u (nodesFrom before vs t) → depends v u ≡ false
   unfolding nodesFrom
   nodes-free v [] before t fit f g i m = absurd (not-nil m)
   nodes-free v (w ∷ vs) before t fit f g i m =
       elim (append-cases (levelNodes before w t) m) [
-        | inl k ↦ fixings-free v before t fit f i (level-in before w t k .0)
+        | inl k ↦ fixings-free n v before t fit f i (level-in before w t k .0)
         | inr k ↦ nodes-free v vs (w ∷ before) t fit (flags-next f (g w (head refl))) (λ j q. g j (tail q)) (tail i) k
       ]
 
@@ -127,3 +154,40 @@ module _ (n : ℕ) where
 
 pub nodes-once : {n : ℕ} {o : List ℕ} → Order n o → (t : List ℕ) → length t ≡ 2 ^ n → Once (nodesOf o t)
 nodes-once {n} {o} p t fit = nodes-apart n o [] t fit (λ i m. absurd (not-nil m)) (p .sound)
+
+-- ---- the nodes of a rule and of its cofactors
+
+-- the rule depends on no flag that the order asks before level l
+abbrev pub Ignores : ℕ → List ℕ → ℕ → List ℕ → Type 0
+Ignores n o l t = (u : ℕ) → u < n → level o u < l → depends u t ≡ false
+
+module _ {n : ℕ} {o : List ℕ} (p : Order n o) (t : List ℕ) (fit : length t ≡ 2 ^ n) {l : ℕ} (ignores : Ignores n o l t) (v : ℕ) (v<n : v < n) (is : level o v ≡ l) where
+  pub ignores-cofactor : (b : ℕ) → b < 2 → Ignores n o (l + 1) (cofactor v b t)
+  ignores-cofactor b b<2 u u<n h =
+      elim (decLt (level o u) l) [
+        | yes k ↦ cofactor-keeps n t fit u v b u<n v<n b<2 (ignores u u<n k)
+        | no k ↦ rw (level-one p u v u<n v<n (omega arith)) (cofactor-free n t fit v b v<n)
+      ]
+
+  -- a node of a cofactor is a node of the rule
+  pub nodes-cofactor : (b : ℕ) → b < 2 → Within (nodesOf o (cofactor v b t)) (nodesOf o t)
+  nodes-cofactor b b<2 u m =
+      let fit′ = length-cofactor v b t ∙ fit in
+      let (w, w<n, k) = nodes-is p (cofactor v b t) fit′ u .0 m in
+      let (i, d) = level-in (askedBefore w o) w (cofactor v b t) k in
+      let a = asked-exactly p w in
+      let below : Flags n (askedBefore w o) = λ j q. a .sound j q .0 in
+      elim (decLt l (level o w)) [
+        | yes h ↦
+            nodes-is p t fit u .1
+            (w, w<n, in-level (askedBefore w o) w t (fixings-again n v b v<n b<2 (askedBefore w o) t fit below (a .whole v (v<n, omega arith)) u i) d)
+        | no h ↦
+            absurd (true≢false (sym d ∙ fixings-keep n w (askedBefore w o) (cofactor v b t) fit′ w<n below (ignores-cofactor b b<2 w w<n (omega arith)) i))
+      ]
+
+  -- and the rule itself is one where it depends on the flag
+  pub node-own : depends v t ≡ true → In t (nodesOf o t)
+  node-own d =
+      let a = asked-exactly p v in
+      nodes-is p t fit t .1
+      (v, v<n, in-level (askedBefore v o) v t (fixings-own (askedBefore v o) t (λ j q. let (h, k) = a .sound j q in ignores j h (omega arith))) d)
