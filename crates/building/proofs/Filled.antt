@@ -24,10 +24,10 @@ use Rattle.theory.proofs.Sound.{view-sound, sound-cleared}
 use Rattle.theory.proofs.Walks.{smaller, walk-end, table-row}
 use Rattle.theory.proofs.Reach.{Diagram, all-reached, view-diagram, root-last}
 use Rattle.theory.proofs.Counting.{drawn-all-reached, used-size, tables-once}
-use Rattle.theory.specs.Restrict.{restrict}
 use Rattle.unique.specs.declared.Found.the-variants.{Full}
 use Rattle.unique.specs.Node.{grown}
-use Rattle.building.specs.Draw.{Drawing, Draw}
+use Rattle.unique.specs.Search.{Grew}
+use Rattle.building.specs.Draw.{Drawing}
 use Rattle.building.specs.Fill.{Fits, Filled}
 
 -- what drawing is given at the root
@@ -48,11 +48,7 @@ module _ {n : ℕ} {t order c : List ℕ} (f : Fits n t order c) where
   ord : Order n (flags n order)
   ord = fit-order-is n order (f .order-fits)
 
-  module _ {used root : ℕ} {d : List ℕ} (a : Draw n t order 0 0 (replicate (length c) 0) 0 (grown used root) d) where
-    table : tableOf n d root ≡ t
-    unfolding restrict
-    table = a .is .table
-
+  module _ {used root : ℕ} {d : List ℕ} (a : Grew n order (nodesOf (flags n order) t) 0 t (replicate (length c) 0) 0 (grown used root) d) where
     whole : Diagram n order d used root
     whole =
         record {
@@ -60,16 +56,16 @@ module _ {n : ℕ} {t order c : List ℕ} (f : Fits n t order c) where
           root-is = a .is .node;
           reached = all-reached d used root .0
               (drawn-all-reached (a .grows .is-sound) ord root (a .is .node)
-              (λ k h. subst (λ (u : List ℕ). In (tableOf n d (k + 2)) (nodesOf (flags n order) u)) (sym table) (a .grows .within k (omega arith) h)));
+              (λ k h. subst (λ (u : List ℕ). In (tableOf n d (k + 2)) (nodesOf (flags n order) u)) (sym (a .is .table)) (a .grows .within k (omega arith) h)));
         }
 
     count : used ≡ size (flags n order) t
-    count = used-size whole ord ∙ ap (size (flags n order)) table
+    count = used-size whole ord ∙ ap (size (flags n order)) (a .is .table)
 
     root-is : (k : ℕ) → used ≡ k → root ≡ rootBy k t
     root-is zero e =
         let m : root < 2 = omega (arith, a .is .node) in
-        sym (walk-end d root 0 m) ∙ sym (table-row n d root 0 (pow-pos n)) ∙ ap (λ (u : List ℕ). getD u 0 0) table
+        sym (walk-end d root 0 m) ∙ sym (table-row n d root 0 (pow-pos n)) ∙ ap (λ (u : List ℕ). getD u 0 0) (a .is .table)
     root-is (suc k) e =
         root-last (smaller (a .grows .is-sound)) root (a .is .node) (omega arith) (all-reached d used root .1 (whole .reached)) ∙ ap (λ (x : ℕ). x + 1) e
         ∙ sym (rw (ne-eqb (suc k) 0 (omega arith)))
@@ -85,7 +81,7 @@ module _ {n : ℕ} {t order c : List ℕ} (f : Fits n t order c) where
             lent = lent;
             is-diagram = subst (λ (x : ℕ). diagram n order d (size (flags n order) t) x ≡ true) e
                 (subst (λ (x : ℕ). diagram n order d x root ≡ true) count (view-diagram n order d used root whole));
-            table = subst (λ (x : ℕ). tableOf n d x ≡ t) e table;
+            table = subst (λ (x : ℕ). tableOf n d x ≡ t) e (a .is .table);
           };
         }
       where
@@ -93,7 +89,7 @@ module _ {n : ℕ} {t order c : List ℕ} (f : Fits n t order c) where
         lent = a .grows .lent ∙ length-replicate (length c) 0
 
   -- one node more than there is room for
-  module _ {used : ℕ} {d : List ℕ} (a : Draw n t order 0 0 (replicate (length c) 0) 0 (record { used = used; found = Full }) d) where
+  module _ {used : ℕ} {d : List ℕ} (a : Grew n order (nodesOf (flags n order) t) 0 t (replicate (length c) 0) 0 (record { used = used; found = Full }) d) where
     tables : List (List ℕ)
     tables = recordTables n d used
 

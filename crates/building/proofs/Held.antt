@@ -14,7 +14,7 @@ use Rattle.theory.specs.Restrict.{restrict}
 use Rattle.unique.specs.declared.Grown.{Grown}
 use Rattle.unique.specs.declared.Found.{Found}
 use Rattle.unique.specs.declared.Found.the-variants.{At, Full}
-use Rattle.unique.specs.Search.{FoundAs}
+use Rattle.unique.specs.Search.{FoundAs, Grew}
 use Rattle.building.specs.Draw.{Drawing, Draw}
 use Rattle.building.specs.Fill.{Fits, Filled}
 use Rattle.building.proofs.Filled.{start, filled, exceeds}
@@ -42,13 +42,11 @@ module _ {n : ℕ} {t order c : List ℕ} (f : Fits n t order c) where
     drawn-length = a .grows .lent ∙ ap length is-held ∙ length-replicate (length c) 0
 
     -- the answer in hand
-    known : (x : Found) → r .found ≡ x → Draw n t order 0 0 (zeros (length c)) 0 (record { used = r .used; found = x }) d
+    known : (x : Found) → r .found ≡ x → Grew n order (nodesOf (flags n order) t) 0 t (zeros (length c)) 0 (record { used = r .used; found = x }) d
+    unfolding restrict
     known x e =
-        subst (λ (z : List ℕ). Draw n t order 0 0 z 0 (record { used = r .used; found = x }) d) is-held
-        (record {
-          grows = a .grows;
-          is = subst (λ (y : Found). FoundAs y n order (nodesOf (flags n order) t) 0 (restrict (take 0 (flags n order)) 0 t) d (r .used)) e (a .is);
-        })
+        subst (λ (z : List ℕ). Grew n order (nodesOf (flags n order) t) 0 t z 0 (record { used = r .used; found = x }) d) is-held
+        (record { grows = a .grows; is = subst (λ (y : Found). FoundAs y n order (nodesOf (flags n order) t) 0 t d (r .used)) e (a .is) })
 
     pub within-held : (rest : List ℕ) → length c ≤ length (d ++ rest)
     within-held rest = omega (arith, length-append d rest, drawn-length)

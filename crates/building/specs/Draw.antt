@@ -24,6 +24,8 @@ pub record Drawing (n : ℕ) (t order : List ℕ) (at row : ℕ) (c : List ℕ) 
   pub is-sound : sound n order c used ≡ true
   pub small : room c ≤ 1024
 
--- the store has grown by nodes of the table's diagram, and the node of the restricted rule was found, or a node of the diagram is lacking
+-- the node of the rule that is left where the flags before level `at` are fixed as in the row: the store has grown by nodes of that rule's own diagram, and it
+-- was found, or one of them is lacking
 abbrev pub Draw : ℕ → List ℕ → List ℕ → ℕ → ℕ → List ℕ → ℕ → Grown → List ℕ → Type 0
-Draw n t order at row c used r d = Grew n order (nodesOf (flags n order) t) at (restrict (take at (flags n order)) row t) c used r d
+Draw n t order at row c used r d =
+    Grew n order (nodesOf (flags n order) (restrict (take at (flags n order)) row t)) at (restrict (take at (flags n order)) row t) c used r d

@@ -9,7 +9,7 @@ use native.Mathlib.Nat.{eq-or-lt-of-le, le-of-suc-le-suc}
 use native.Mathlib.Decide.{ℕ-discrete}
 use native.Mathlib.Omega.{arith}
 use borrow.Author.Tests.{eqb-true}
-use lib.ListN.{length, getD, replicate, length-append, length-replicate}
+use lib.ListN.{length, getD, take, replicate, length-append, length-replicate}
 use lib.Pow.{pow-mono}
 use Rattle.rule.specs.Bits.{setBit}
 use Rattle.rule.specs.Tests.{addIf, keep}
@@ -23,14 +23,16 @@ use Rattle.theory.proofs.Perm.{once-length}
 use Rattle.theory.proofs.Distinct.{distinct-in, distinct-once}
 use Rattle.theory.proofs.Orders.{order-length, fit-order-is}
 use Rattle.theory.proofs.Reduced.{diagram-reduced}
-use Rattle.theory.proofs.Growth.{grows-none}
+use Rattle.theory.specs.Restrict.{restrict}
 use Rattle.unique.specs.declared.Grown.{Grown}
 use Rattle.unique.specs.declared.Found.{Found}
 use Rattle.unique.specs.declared.Found.the-variants.{At, Full}
 use Rattle.unique.specs.Node.{Is, None, MakesNode, child, old, new, full}
+use Rattle.unique.specs.Search.{Grew}
 use Rattle.building.specs.Draw.{Drawing, Draw}
 use Rattle.building.specs.Fill.{Fits}
-use Rattle.building.proofs.Branches.{cells, leaf, first, second, third, no-room}
+use Rattle.unique.proofs.Branches.{no-room-low, no-room-high, joined}
+use Rattle.building.proofs.Branches.{leaf, split, branch-rule, first, second}
 use Rattle.building.proofs.Filled.{start, filled, exceeds}
 
 -- ---- how many nodes there are
@@ -137,16 +139,20 @@ Drawn n t order at row c used = (r : Grown) × (d : List ℕ) × Draw n t order 
 module _ {n at row used : ℕ} {t order c : List ℕ} (g : Drawing n t order at row c used) (h : at < n)
     -- the branches do
     (branch : (x used : ℕ) (c : List ℕ) → Drawing n t order (at + 1) x c used → Drawn n t order (at + 1) x c used) where
+  rule : (b : ℕ) → b < 2
+      → restrict (take (at + 1) (flags n order)) (setBit row (getD order at 0) b) t ≡ cofactor (getD order at 0) b (restrict (take at (flags n order)) row t)
+  rule b k = branch-rule g h b (setBit row (getD order at 0) b) k refl
+
   high-drawn : {low : ℕ} {p q : Grown} {d e : List ℕ} → p .found ≡ At low → Draw n t order (at + 1) (setBit row (getD order at 0) 0) c used p d
       → Draw n t order (at + 1) (setBit row (getD order at 0) 1) d (p .used) q e → (f : Found) → q .found ≡ f → Drawn n t order at row c used
-  high-drawn at-low a b Full e = (_, _, no-room g h _ (a .grows) e b)
+  high-drawn at-low a b Full e = (_, _, no-room-high (split g h) (rule 0 (omega arith)) (rule 1 (omega arith)) a b e)
   high-drawn at-low a b (At high) e =
       let (r, d, m) = makes _ _ (getD order at 0) _ high (b .grows .is-sound .fits) in
-      (r, d, third g h _ _ refl refl at-low e a b m)
+      (r, d, joined (split g h) (rule 0 (omega arith)) (rule 1 (omega arith)) a b at-low e m)
 
   low-drawn : {p : Grown} {d : List ℕ} → Draw n t order (at + 1) (setBit row (getD order at 0) 0) c used p d → (f : Found) → p .found ≡ f
       → Drawn n t order at row c used
-  low-drawn a Full e = (_, _, no-room g h _ (grows-none (nodesOf (flags n order) t) (cells g)) e a)
+  low-drawn a Full e = (_, _, no-room-low (split g h) (rule 0 (omega arith)) e a)
   low-drawn a (At low) e =
       let (q, d, b) = branch _ _ _ (second g h _ _ refl a) in
       high-drawn e a b (q .found) refl
@@ -162,7 +168,7 @@ draws zero q g = (_, _, leaf g (omega arith))
 draws (suc k) q g = both-drawn g (omega arith) (λ x used c. draws k (omega arith))
 
 pub exists : (n : ℕ) (order t : List ℕ) → Fit n order t → (c : List ℕ) × (used : ℕ) × (root : ℕ) × DrawnAs n order t c used root
-unfolding fitLength
+unfolding fitLength restrict
 exists n order t f =
     let (r, d, a) = draws n (omega arith) (start fits) in
     go (r .used) (r .found) d a
@@ -180,7 +186,8 @@ exists n order t f =
           lent = omega (arith, length-replicate {A = ℕ} mostCells 0);
         }
 
-    go : (used : ℕ) (found : Found) (d : List ℕ) → Draw n t order 0 0 (replicate (length most) 0) 0 (record { used = used; found = found }) d
+    go : (used : ℕ) (found : Found) (d : List ℕ)
+        → Grew n order (nodesOf (flags n order) t) 0 t (replicate (length most) 0) 0 (record { used = used; found = found }) d
         → (c : List ℕ) × (used : ℕ) × (root : ℕ) × DrawnAs n order t c used root
     go used Full d a = absurd (omega (arith, exceeds fits a, size-few n order t f, length-replicate {A = ℕ} mostCells 0))
     go used (At root) d a =

@@ -7,8 +7,8 @@ use mathlib.Core.List.{List, map}
 use Prim.Native.Nat.{ℕ, _+_, _-_, _≤_}
 use native.Mathlib.Decide.{decLt}
 use native.Mathlib.Omega.{arith}
-use lib.ListN.{length-map}
-use Rattle.rule.specs.Bits.{from, below}
+use lib.ListN.{length, length-map}
+use Rattle.rule.specs.Bits.{from}
 use Rattle.rule.specs.Tests.{keep, among}
 use Rattle.rule.specs.Level.{nodesOf}
 use Rattle.rule.specs.Order.{flags}
@@ -16,31 +16,16 @@ use Rattle.rule.specs.Cells.{sound}
 use Rattle.rule.specs.Diagram.{tableOf}
 use Rattle.rule.specs.Results.{recordTables, lacking, needed}
 use Rattle.rule.specs.Demands.{Fit}
-use Rattle.theory.proofs.Member.{In, cast, in-map, map-in}
-use Rattle.theory.proofs.Bits.{length-from, below-in, in-below, in-from}
+use Rattle.theory.proofs.Member.{In, cast, in-map}
+use Rattle.theory.proofs.Bits.{length-from, in-below, in-from}
 use Rattle.theory.proofs.Tests.{among?, keep-in}
-use Rattle.theory.proofs.Perm.{Once, once-length, once-keep, perm-once, perm-of-length}
+use Rattle.theory.proofs.Perm.{once-length, once-keep}
+use Rattle.theory.proofs.Sets.{Order}
 use Rattle.theory.proofs.Orders.{fit-order-is}
 use Rattle.theory.proofs.Sound.{sound-view}
-use Rattle.theory.proofs.Counting.{tables-once, node-record, record-node}
-use Rattle.demands.proofs.Counts.{drawn-diagram, counts}
-use Rattle.demands.proofs.Exists.{exists}
-
--- no node of a table's diagram is counted twice: in a diagram of it each is the table of one record
-nodes-once : (n : ℕ) (order t : List ℕ) → Fit n order t → Once (nodesOf (flags n order) t)
-nodes-once n order t f =
-    let (c, used, root, x) = exists n order t f in
-    let d = drawn-diagram x in
-    let o = fit-order-is n order (f .order-fits) in
-    let once = tables-once (d .cells) o in
-    perm-once
-    (perm-of-length (recordTables n c used) (nodesOf (flags n order) t) once
-    (λ u m.
-    let (k, i, e) = map-in (λ k. tableOf n c (k + 2)) (below used) m in
-    subst (λ (z : List ℕ). In u (nodesOf (flags n order) z)) (x .table)
-    (cast (sym e) (record-node (d .cells) o k root (below-in i) (d .root-is) (d .reached k (below-in i)))))
-    (omega (arith, counts n order t f c used root x, length-map (below used) (λ k. tableOf n c (k + 2)), length-from 0 used)))
-    once
+use Rattle.theory.proofs.Walks.{length-table}
+use Rattle.theory.proofs.Nodes.{nodes-once}
+use Rattle.theory.proofs.Counting.{node-record}
 
 pub needs : (n : ℕ) (order t : List ℕ) → Fit n order t → (c d : List ℕ) (used more m : ℕ) → sound n order c used ≡ true → sound n order d more ≡ true
     → used ≤ more → ((k : ℕ) → k ≤ used + 1 → tableOf n d k ≡ tableOf n c k) → m ≤ more + 1 → tableOf n d m ≡ t
@@ -49,11 +34,14 @@ unfolding lacking
 needs n order t f c d used more m sc sd le kept hm e =
     omega (
       arith,
-      once-length (lacking n order c used t) added (once-keep lacks (nodesOf (flags n order) t) (nodes-once n order t f)) within,
+      once-length (lacking n order c used t) added (once-keep lacks (nodesOf (flags n order) t) (nodes-once o t (sym (ap length e) ∙ length-table n d m))) within,
       length-map (from used (more - used)) (λ k. tableOf n d (k + 2)),
       length-from used (more - used),
     )
   where
+    o : Order n (flags n order)
+    o = fit-order-is n order (f .order-fits)
+
     lacks : List ℕ → Bool
     lacks u = not (among u (recordTables n c used))
 
@@ -64,7 +52,7 @@ needs n order t f c d used more m sc sd le kept hm e =
     within u i =
         let (a, b) = keep-in lacks (nodesOf (flags n order) t) i in
         let (k, h, _, q) =
-        node-record (sound-view n order d more sd) (fit-order-is n order (f .order-fits)) m hm
+        node-record (sound-view n order d more sd) o m hm
         (subst (λ (z : List ℕ). In u (nodesOf (flags n order) z)) (sym e) a) in
         elim (decLt k used) [
           | yes l ↦

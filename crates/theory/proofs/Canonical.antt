@@ -13,7 +13,7 @@ use lib.ListN.{length, getD, length-map}
 use Rattle.rule.specs.Bits.{bit, setBit, below}
 use Rattle.rule.specs.Table.{cofactor, depends}
 use Rattle.rule.specs.Order.{flags, level}
-use Rattle.rule.specs.Cells.{flagAt, lowAt, highAt, recordOf, isEnd}
+use Rattle.rule.specs.Cells.{flagAt, lowAt, highAt, recordOf}
 use Rattle.rule.specs.Diagram.{walk, tableOf}
 use Rattle.theory.proofs.Bits.{length-from, map-below, bit-lt, bit-same, bit-other, setBit-lt, setBit-own}
 use Rattle.theory.proofs.Cofactor.{length-cofactor, cofactor-row, depends-false, not-depends}
@@ -21,6 +21,7 @@ use Rattle.theory.proofs.Sets.{Order, full-lt}
 use Rattle.theory.specs.Level.{levelOf}
 use Rattle.theory.specs.Sound.{Sound}
 use Rattle.theory.proofs.Levels.{level-lt, level-one}
+use Rattle.theory.proofs.Nodes.{Ignores}
 use Rattle.theory.proofs.Walks.{node, smaller, nodes, childAt, child-is, step-child, step-is, walk-end, walk-record, length-table, table-row, rows-eq}
 
 -- ---- two tables joined by a flag
@@ -134,6 +135,9 @@ module _ {n used : ℕ} {order c : List ℕ} (s : Sound n order c used) (o : Ord
       → cofactor v b (tableOf n c m) ≡ tableOf n c m
   ignores v b m h hv l hb = cofactor-is v b m m hv hb (λ r. walk-ignores v b r hb m h l)
 
+  pub node-ignores : (m : ℕ) → m ≤ used + 1 → Ignores n (flags n order) (levelOf n order c m) (tableOf n c m)
+  node-ignores m h v hv l = not-depends v (tableOf n c m) (ignores v 0 m h hv l (omega arith) ∙ sym (ignores v 1 m h hv l (omega arith)))
+
   -- ---- a record's cofactors by its own flag are its children
 
   pub record-child : (k b : ℕ) → k < used → b < 2 → cofactor (flagAt c k) b (tableOf n c (k + 2)) ≡ tableOf n c (childAt c k b)
@@ -245,11 +249,7 @@ module _ {n used : ℕ} {order c : List ℕ} (s : Sound n order c used) (o : Ord
       → (2 ≤ m) × (flagAt c (recordOf m) ≡ v)
   depends-asks v m h hv l d =
       elim (decLt (level (flags n order) v) (levelOf n order c m)) [
-        | yes q ↦
-            absurd
-            (true≢false
-            (sym d
-            ∙ not-depends v (tableOf n c m) (ignores v 0 m h hv q (omega arith) ∙ sym (ignores v 1 m h hv q (omega arith)))))
+        | yes q ↦ absurd (true≢false (sym d ∙ node-ignores m h v hv q))
         | no q ↦ elim (node m) [
           | inl x ↦ absurd (omega (arith, level-end n order c m x, level-lt o v hv))
           | inr (k, x) ↦ (

@@ -4,15 +4,16 @@ use mathlib.Core.Path.{_≡_, refl, sym, ap, _∙_}
 use mathlib.Core.Logic.{_≢_, inl, inr}
 use mathlib.Core.Bool.{true, false, not, true≢false}
 use mathlib.Core.List.{List}
-use Prim.Native.Nat.{ℕ, _^_, _<_}
+use Prim.Native.Nat.{ℕ, zero, suc, _^_, _<_}
+use native.Mathlib.Decide.{ℕ-discrete}
 use native.Mathlib.Omega.{arith}
 use lib.Dec.{ltb}
 use lib.ListN.{length, getD, length-map}
 use lib.Seq.{ext-getD}
 use borrow.Author.Tests.{ltb-true, lt-ltb}
-use Rattle.rule.specs.Bits.{setBit, below}
+use Rattle.rule.specs.Bits.{bit, setBit, below}
 use Rattle.rule.specs.Table.{fitRows, cofactor, depends}
-use Rattle.theory.proofs.Bits.{length-from, map-below, setBit-lt, setBit-comm, setBit-twice}
+use Rattle.theory.proofs.Bits.{length-from, map-below, bit-lt, setBit-lt, setBit-comm, setBit-twice, setBit-own}
 use Rattle.theory.proofs.Tests.{same?, each-at, at-each}
 
 -- ---- rows
@@ -67,11 +68,38 @@ pub not-depends : (v : ℕ) (t : List ℕ) → cofactor v 0 t ≡ cofactor v 1 t
 unfolding depends
 not-depends v t e = elim (same? (cofactor v 0 t) (cofactor v 1 t)) [ inl s ↦ ap not (s .0) | inr s ↦ absurd (s .1 e) ]
 
+-- to fix a flag that the table does not depend on changes nothing
+pub cofactor-own : (v b : ℕ) (t : List ℕ) → b < 2 → depends v t ≡ false → cofactor v b t ≡ t
+cofactor-own v b t b<2 d =
+    ext-getD 0 (cofactor v b t) t (length-cofactor v b t)
+    (λ r h.
+    let k : r < length t = simp length-cofactor at h in
+    ap (λ (u : List ℕ). getD u r 0) (alike b b<2 ∙ sym (alike (bit r v) (bit-lt r v)))
+    ∙ cofactor-row v (bit r v) t r k
+    ∙ ap (λ (x : ℕ). getD t x 0) (setBit-own r v))
+  where
+    alike : (b : ℕ) → b < 2 → cofactor v b t ≡ cofactor v 0 t
+    alike zero h = refl
+    alike (suc zero) h = sym (depends-false v t d)
+    alike (suc (suc b)) h = absurd (omega arith)
+
 module _ (n : ℕ) (t : List ℕ) (fit : length t ≡ 2 ^ n) where
   -- a cofactor does not depend on the flag that is fixed
   pub cofactor-free : (i b : ℕ) → i < n → depends i (cofactor i b t) ≡ false
   cofactor-free i b i<n =
       not-depends i (cofactor i b t) (cofactor-twice n t fit i 0 b i<n (omega arith) ∙ sym (cofactor-twice n t fit i 1 b i<n (omega arith)))
+
+  -- nor on one that the table does not depend on
+  pub cofactor-keeps : (v i b : ℕ) → v < n → i < n → b < 2 → depends v t ≡ false → depends v (cofactor i b t) ≡ false
+  cofactor-keeps v i b v<n i<n b<2 d =
+      elim (ℕ-discrete v i) [
+        | yes e ↦ rw e (cofactor-free i b i<n)
+        | no q ↦
+            not-depends v (cofactor i b t)
+            (cofactor-comm n t fit v i 0 b v<n i<n (omega arith) b<2 q
+            ∙ ap (cofactor i b) (depends-false v t d)
+            ∙ sym (cofactor-comm n t fit v i 1 b v<n i<n (omega arith) b<2 q))
+      ]
 
 -- ---- answers 0 and 1
 

@@ -3,7 +3,7 @@
 use mathlib.Core.Path.{_≡_, refl, sym, ap, _∙_}
 use mathlib.Core.Logic.{inl, inr, _≢_, _↔_}
 use mathlib.Core.List.{List, [], _∷_, _++_, append-nil, List·Memᴰ as In, List·Memᴰ·head as head, List·Memᴰ·tail as tail, List·Memᴰ·not-nil as not-nil, List·Memᴰ·cases-cons as cases-cons, Memᴰ·append-right as append-right}
-use Prim.Native.Nat.{ℕ, suc, _≤_, _<_, suc-le-suc}
+use Prim.Native.Nat.{ℕ, suc, _<_, suc-le-suc}
 use native.Mathlib.Nat.{le-of-suc-le-suc}
 use native.Mathlib.Decide.{ℕ-discrete}
 use native.Mathlib.Omega.{arith}
@@ -86,14 +86,6 @@ flag-level v o m =
 abbrev pub Turn : ℕ → List ℕ → ℕ → List ℕ → Type 0
 Turn n o l [] = Unit {0}
 Turn n o l (v ∷ vs) = (v < n) × (level o v ≡ l) × Turn n o (suc l) vs
-
-pub turn-in : (n : ℕ) (o : List ℕ) (l : ℕ) (vs : List ℕ) → Turn n o l vs → (v : ℕ) → In v vs → (v < n) × (l ≤ level o v)
-turn-in n o l [] t v m = absurd (not-nil m)
-turn-in n o l (u ∷ vs) t v m =
-    elim (cases-cons m) [
-      | inl e ↦ rw e (t .0, omega (arith, t .1))
-      | inr k ↦ let r = turn-in n o (suc l) vs (t .2) v k in (r .0, omega arith)
-    ]
 
 module _ {n : ℕ} {o : List ℕ} (p : Order n o) where
   pub level-lt : (v : ℕ) → v < n → level o v < n

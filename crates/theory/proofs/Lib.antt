@@ -15,6 +15,7 @@ pub mod Scan
 pub mod Sound
 pub mod Walks
 pub mod Levels
+pub mod Nodes
 pub mod Canonical
 pub mod Reach
 pub mod Reduced

@@ -3,13 +3,13 @@
 use mathlib.Core.Path.{_≡_, refl, sym, ap, _∙_}
 use mathlib.Core.Logic.{_≢_, inl, inr}
 use mathlib.Core.Bool.{Bool, true, false}
-use mathlib.Core.List.{List, [], _∷_, map}
+use mathlib.Core.List.{List, [], _∷_, _++_, map}
 use Prim.Native.Nat.{ℕ, zero, suc, _≤_, zero-le}
 use native.Mathlib.Omega.{arith}
 use lib.ListN.{length}
 use Rattle.rule.specs.Bits.{from}
 use Rattle.rule.specs.Tests.{addIf, keep}
-use Rattle.theory.proofs.Member.{In, head, tail, cases-cons, cast, map-in, Perm, nil, cons, swap, trans, perm-refl, perm-sym}
+use Rattle.theory.proofs.Member.{In, head, tail, cases-cons, append-cases, cast, map-in, Perm, nil, cons, swap, trans, perm-refl, perm-sym}
 use Rattle.theory.proofs.Bits.{from-in}
 use Rattle.theory.proofs.Tests.{keep-in}
 
@@ -99,6 +99,13 @@ module _ {A : Type 0} where
 
   pub once-set : (xs ys : List A) → Once xs → Once ys → Within xs ys → Within ys xs → length xs ≡ length ys
   once-set xs ys o q w r = perm-length (perm-of-set xs ys o q w r)
+
+  pub once-append : (xs ys : List A) → Once xs → Once ys → ((x : A) → In x xs → In x ys → ⊥) → Once (xs ++ ys)
+  once-append [] ys p q d = q
+  once-append (x ∷ xs) ys p q d = (
+    λ m. elim (append-cases xs m) [ inl k ↦ p .0 k | inr k ↦ d x (head refl) k ],
+    once-append xs ys (p .1) q (λ y k. d y (tail k)),
+  )
 
   pub once-keep : (p : A → Bool) (xs : List A) → Once xs → Once (keep p xs)
   unfolding keep

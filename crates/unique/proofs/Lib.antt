@@ -1,3 +1,4 @@
 pub mod Chain
 pub mod Extend
 pub mod Search
+pub mod Branches

@@ -7,8 +7,8 @@ use borrow.Fn.Kinds.{In}
 use borrow.Fn.PlainCycle.{Measures, is, falls, and}
 use lib.Pow.{pow-mono}
 use Rattle.theory.proofs.Cofactor.{row-lt}
-use Rattle.theory.proofs.Growth.{grows-none}
-use Rattle.building.proofs.Branches.{cells, leaf, flag-lt, first, second, third, no-room, within-room}
+use Rattle.building.proofs.Branches.{leaf, flag-lt, split, branch-rule, first, second}
+use Rattle.unique.proofs.Branches.{no-room-low, no-room-high, joined}
 use Rattle.building.proofs.tree.draw.Reads as draw
 use Rattle.building.proofs.tree.draw.Kinds as draw-kinds
 use Rattle.building.proofs.tree.+draw.Lts-draw as draw-lts
@@ -60,27 +60,43 @@ pub +draw-spec : {M : Type 1} → statement M
     (λ c. search needs)
     (λ c. search needs)
     (λ c κs.
-    let s = c .before .before .before .before .before .before .before .before .before .before .before .before in (
-      omega (arith, s .pre .1 .row-fits, pow-mono (s .pre .1 .few)),
-      omega (arith, flag-lt (s .pre .1) (c .before .before .before .before .before .before .before .before .before .if1 .left), s .pre .1 .few),
+    let low = c .before .before .before .before .before in
+    let g = low .before .before .before .before .before .before .before .pre .1 in (
+      omega (arith, g .row-fits, pow-mono (g .few)),
+      omega (arith, flag-lt g (low .before .before .before .before .if1 .left), g .few),
       omega arith,
     ))
     (λ c. search needs)
     (λ c κs.
-    let s = c .before .before .before .before .before .before .before .before .before .before .before .before .before .before in (
-      omega (arith, s .pre .0, c .before .before .before .before .before .before .before .before .before .before .before .if1 .left),
-      second (s .pre .1) (c .before .before .before .before .before .before .before .before .before .before .before .if1 .left) _ _ (c .before .set-bit2 .ensures) (c .before .before .before .before .before .before .before .draw .ensures),
-    ))
+    let low = c .before .before .before .before .before .before .before in
+    let s = low .before .before .before .before .before .before .before .pre in
+    let h = low .before .before .before .before .if1 .left in
+    (omega (arith, s .0), second (s .1) h _ _ (c .before .set-bit2 .ensures) (low .draw .ensures)))
     (λ c. search needs)
     (λ c. search needs)
-    (λ c κs. within-room (c .before .before .before .before .before .before .before .before .before .before .before .before .before .before .before .before .before .before .before .before .before .pre .1) (c .before .before .before .before .before .before .before .before .before .before .before .before .before .before .before .before .before .before .if1 .left) _ _ (c .before .before .before .before .before .before .before .before .before .before .before .before .before .before .draw .ensures) (c .before .before .before .before .before .before .draw2 .ensures))
-    (λ c. search needs)
-    (λ c.
-    no-room (c .before .before .before .before .before .before .before .before .before .before .before .pre .1) (c .before .before .before .before .before .before .before .before .if1 .left) _ (grows-none _ (cells (c .before .before .before .before .before .before .before .before .before .before .before .pre .1))) (c .enum-told .given .1) (c .before .before .before .before .draw .ensures))
-    (λ c. search needs)
-    (λ c.
-    no-room (c .before .before .before .before .before .before .before .before .before .before .before .before .before .before .before .before .before .before .before .pre .1) (c .before .before .before .before .before .before .before .before .before .before .before .before .before .before .before .before .if1 .left) _ (c .before .before .before .before .before .before .before .before .before .before .before .before .draw .ensures .grows) (c .enum-told2 .given .1) (c .before .before .before .before .draw2 .ensures))
+    (λ c κs.
+    let high = c .before .before .before .before .before .before in
+    let low = high .before .before .before .before .before .before .before .before in
+    (high .draw2 .ensures .grows .is-sound .fits, omega (arith, low .before .before .before .before .before .before .before .pre .1 .small, low .draw .ensures .grows .lent, high .draw2 .ensures .grows .lent)))
     (λ c. search needs)
     (λ c.
-    third (c .before .before .before .before .before .before .before .before .before .before .before .before .before .before .before .before .before .before .before .before .before .before .before .before .pre .1) (c .before .before .before .before .before .before .before .before .before .before .before .before .before .before .before .before .before .before .before .before .before .if1 .left) _ _ (c .before .before .before .before .before .before .before .before .before .before .before .before .before .before .before .before .before .before .before .set-bit .ensures) (c .before .before .before .before .before .before .before .before .before .before .before .set-bit2 .ensures) (c .before .before .before .before .before .before .before .before .before .before .before .before .before .lower .given .1) (c .before .before .before .before .before .higher .given .1)
-    (c .before .before .before .before .before .before .before .before .before .before .before .before .before .before .before .before .before .draw .ensures) (c .before .before .before .before .before .before .before .before .before .draw2 .ensures) (c .before .before .make .ensures))
+    let low = c .before .before .before .before in
+    let g = low .before .before .before .before .before .before .before .pre .1 in
+    let h = low .before .before .before .before .if1 .left in
+    no-room-low (split g h) (branch-rule g h 0 _ (omega arith) (low .before .before .set-bit .ensures)) (c .enum-told .given .1) (low .draw .ensures))
+    (λ c. search needs)
+    (λ c.
+    let high = c .before .before .before .before in
+    let low = high .before .before .before .before .before .before .before .before in
+    let g = low .before .before .before .before .before .before .before .pre .1 in
+    let h = low .before .before .before .before .if1 .left in
+    no-room-high (split g h) (branch-rule g h 0 _ (omega arith) (low .before .before .set-bit .ensures)) (branch-rule g h 1 _ (omega arith) (high .before .before .set-bit2 .ensures))
+    (low .draw .ensures) (high .draw2 .ensures) (c .enum-told2 .given .1))
+    (λ c. search needs)
+    (λ c.
+    let high = c .before .before .before .before .before .before .before .before .before in
+    let low = high .before .before .before .before .before .before .before .before in
+    let g = low .before .before .before .before .before .before .before .pre .1 in
+    let h = low .before .before .before .before .if1 .left in
+    joined (split g h) (branch-rule g h 0 _ (omega arith) (low .before .before .set-bit .ensures)) (branch-rule g h 1 _ (omega arith) (high .before .before .set-bit2 .ensures))
+    (low .draw .ensures) (high .draw2 .ensures) (high .before .before .before .before .lower .given .1) (c .before .before .before .before .before .higher .given .1) (c .before .before .make .ensures))
