@@ -27,7 +27,7 @@ use Rattle.theory.proofs.Canonical.{level-end}
 use Rattle.theory.proofs.Nodes.{fixings-free}
 use Rattle.theory.proofs.Restrict.{length-restrict, restrict-in, restrict-snoc, restrict-agree, restrict-all}
 use Rattle.theory.proofs.Growth.{grows-none}
-use Rattle.unique.specs.declared.Grown.{Grown}
+use Rattle.unique.specs.declared.node.Grown.{Grown}
 use Rattle.unique.specs.Node.{grown}
 use Rattle.unique.proofs.Branches.{Split}
 use Rattle.building.specs.Draw.{Drawing, Draw}

@@ -24,7 +24,7 @@ use Rattle.theory.proofs.Sound.{view-sound, sound-cleared}
 use Rattle.theory.proofs.Walks.{smaller, walk-end, table-row}
 use Rattle.theory.proofs.Reach.{Diagram, all-reached, view-diagram, root-last}
 use Rattle.theory.proofs.Counting.{drawn-all-reached, used-size, tables-once}
-use Rattle.unique.specs.declared.Found.the-variants.{Full}
+use Rattle.unique.specs.declared.node.Found.the-variants.{Full}
 use Rattle.unique.specs.Node.{grown}
 use Rattle.unique.specs.Search.{Grew}
 use Rattle.building.specs.Draw.{Drawing}

@@ -11,9 +11,9 @@ use Rattle.rule.specs.Level.{size, nodesOf}
 use Rattle.rule.specs.Order.{flags}
 use Rattle.rule.specs.Cells.{mostCells, room}
 use Rattle.theory.specs.Restrict.{restrict}
-use Rattle.unique.specs.declared.Grown.{Grown}
-use Rattle.unique.specs.declared.Found.{Found}
-use Rattle.unique.specs.declared.Found.the-variants.{At, Full}
+use Rattle.unique.specs.declared.node.Grown.{Grown}
+use Rattle.unique.specs.declared.node.Found.{Found}
+use Rattle.unique.specs.declared.node.Found.the-variants.{At, Full}
 use Rattle.unique.specs.Search.{FoundAs, Grew}
 use Rattle.building.specs.Draw.{Drawing, Draw}
 use Rattle.building.specs.Fill.{Fits, Filled}

@@ -10,7 +10,7 @@ use Rattle.rule.specs.Level.{nodesOf}
 use Rattle.rule.specs.Order.{flags, fitOrder}
 use Rattle.rule.specs.Cells.{room, sound}
 use Rattle.theory.specs.Restrict.{restrict}
-use Rattle.unique.specs.declared.Grown.{Grown}
+use Rattle.unique.specs.declared.node.Grown.{Grown}
 use Rattle.unique.specs.Search.{Grew}
 
 -- a fit table and order, a level, a row, and sound cells

@@ -11,9 +11,9 @@ use Rattle.rule.specs.Order.{flags, fitOrder}
 use Rattle.rule.specs.Cells.{mostCells, room}
 use Rattle.rule.specs.Results.{rootBy}
 use Rattle.rule.specs.Calls.{Draws}
-use Rattle.unique.specs.declared.Grown.{Grown}
-use Rattle.unique.specs.declared.Found.{Found}
-use Rattle.unique.specs.declared.Found.the-variants.{At, Full}
+use Rattle.unique.specs.declared.node.Grown.{Grown}
+use Rattle.unique.specs.declared.node.Found.{Found}
+use Rattle.unique.specs.declared.node.Found.the-variants.{At, Full}
 
 -- a table, an order and cells that passed the tests of build
 pub record Fits (n : ℕ) (t order c : List ℕ) : Type 0 where

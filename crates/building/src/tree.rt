@@ -4,6 +4,7 @@ use unique::Found;
 use unique::Grown;
 ghost use mathlib.Core.Path.{_≡_};
 ghost use Prim.Native.Nat.{_<_};
+ghost use Rattle.unique.specs.Index.{Indexed};
 ghost use Rattle.building.specs.Draw.{Drawing, Draw};
 
 // The end node that gives the answer.
@@ -25,10 +26,12 @@ pub fn draw(
     at: u8,
     row: u16,
     cells: &mut [u16],
+    index: &mut [u16; unique::INDEX],
     used: u16,
 ) -> Grown
-    requires { ⌜ Drawing n (now table) (order .places) at row (now cells) used ⌝ }
-    ensures { λ r. ⌜ Draw n (now (table .entry)) (order .places) at row (now (cells .entry)) used r (now (cells .exit)) ⌝ }
+    requires { ⌜ Drawing n (now table) (order .places) at row (now cells) used × Indexed (now cells) used (now index) ⌝ }
+    ensures { λ r. ⌜ Draw n (now (table .entry)) (order .places) at row (now (cells .entry)) used r (now (cells .exit))
+        × Indexed (now (cells .exit)) (r .used) (now (index .exit)) ⌝ }
 {
     if n <= at {
         let end = end_node(table[row as usize]);
@@ -39,7 +42,7 @@ pub fn draw(
     }
     let flag = order.places[at as usize] as u16;
     let no = bits::set_bit(row, flag, 0);
-    let first = draw(n, table, order, at + 1, no, cells, used);
+    let first = draw(n, table, order, at + 1, no, cells, index, used);
     let lower = first.found;
     match lower {
         Found::Full => Grown {
@@ -48,14 +51,14 @@ pub fn draw(
         },
         Found::At(low) => {
             let yes = bits::set_bit(row, flag, 1);
-            let second = draw(n, table, order, at + 1, yes, cells, first.used);
+            let second = draw(n, table, order, at + 1, yes, cells, index, first.used);
             let higher = second.found;
             match higher {
                 Found::Full => Grown {
                     used: second.used,
                     found: Found::Full,
                 },
-                Found::At(high) => unique::make(cells, second.used, flag, low, high),
+                Found::At(high) => unique::make(cells, index, second.used, flag, low, high),
             }
         }
     }

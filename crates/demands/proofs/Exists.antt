@@ -24,10 +24,11 @@ use Rattle.theory.proofs.Distinct.{distinct-in, distinct-once}
 use Rattle.theory.proofs.Orders.{order-length, fit-order-is}
 use Rattle.theory.proofs.Reduced.{diagram-reduced}
 use Rattle.theory.specs.Restrict.{restrict}
-use Rattle.unique.specs.declared.Grown.{Grown}
-use Rattle.unique.specs.declared.Found.{Found}
-use Rattle.unique.specs.declared.Found.the-variants.{At, Full}
-use Rattle.unique.specs.Node.{Is, None, MakesNode, child, old, new, full}
+use Rattle.unique.specs.declared.node.Grown.{Grown}
+use Rattle.unique.specs.declared.node.Found.{Found}
+use Rattle.unique.specs.declared.node.Found.the-variants.{At, Full}
+use Rattle.cells.specs.Record.{putRecord}
+use Rattle.unique.specs.Node.{foundReply, grown, Is, None, MakesNode, child, old, new, full}
 use Rattle.unique.specs.Search.{Grew}
 use Rattle.building.specs.Draw.{Drawing, Draw}
 use Rattle.building.specs.Fill.{Fits}
@@ -97,15 +98,15 @@ is? c k flag low high =
           ]
     ]
 
--- the first of k records that is these three, or none is
-search-records : (c : List ℕ) (flag low high k : ℕ) → ((j : ℕ) × (j < k) × None c j flag low high × Is c j flag low high) ⊎ None c k flag low high
+-- one of k records is these three, or none is
+search-records : (c : List ℕ) (flag low high k : ℕ) → ((j : ℕ) × (j < k) × Is c j flag low high) ⊎ None c k flag low high
 search-records c flag low high zero = inr (λ j h. absurd (omega arith))
 search-records c flag low high (suc k) =
     elim (search-records c flag low high k) [
-      | inl (j, h, b, i) ↦ inl (j, omega arith, b, i)
+      | inl (j, h, i) ↦ inl (j, omega arith, i)
       | inr none ↦
           elim (is? c k flag low high) [
-            | yes i ↦ inl (k, omega arith, none, i)
+            | yes i ↦ inl (k, omega arith, i)
             | no d ↦
                 inr (λ j h i.
                 elim (eq-or-lt-of-le (le-of-suc-le-suc h)) [
@@ -115,17 +116,18 @@ search-records c flag low high (suc k) =
           ]
     ]
 
-makes : (c : List ℕ) (used flag low high : ℕ) → used ≤ room c → (r : Grown) × (d : List ℕ) × MakesNode c used flag low high r d
+makes : (c : List ℕ) (used flag low high : ℕ) → used ≤ room c
+    → (r : Grown) × (d : List ℕ) × MakesNode c used flag low high (r .used) (foundReply (r .found)) d
 makes c used flag low high h =
     elim (ℕ-discrete low high) [
-      | yes e ↦ (_, _, child e)
+      | yes e ↦ (grown used low, c, child e)
       | no d ↦
           elim (search-records c flag low high used) [
-            | inl (j, l, b, i) ↦ (_, _, old d j l b i)
+            | inl (j, l, i) ↦ (grown used (j + 2), c, old d j l i)
             | inr none ↦
                 elim (eq-or-lt-of-le h) [
-                  | inl e ↦ (_, _, full d none e)
-                  | inr l ↦ (_, _, new d none l)
+                  | inl e ↦ (record { used = used; found = Full }, c, full d none e)
+                  | inr l ↦ (grown (used + 1) (used + 2), putRecord c used flag low high, new d none l)
                 ]
           ]
     ]

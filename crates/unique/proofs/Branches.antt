@@ -19,10 +19,10 @@ use Rattle.theory.proofs.Nodes.{Ignores, nodes-cofactor, node-own}
 use Rattle.theory.specs.Growth.{Grows}
 use Rattle.theory.proofs.Canonical.{mix, mix-cofactors, canonical}
 use Rattle.theory.proofs.Growth.{grows-more, grows-within, older, older-level}
-use Rattle.unique.specs.declared.Grown.{Grown}
-use Rattle.unique.specs.declared.Found.{Found}
-use Rattle.unique.specs.declared.Found.the-variants.{At, Full}
-use Rattle.unique.specs.Node.{MakesNode}
+use Rattle.unique.specs.declared.node.Grown.{Grown}
+use Rattle.unique.specs.declared.node.Found.{Found}
+use Rattle.unique.specs.declared.node.Found.the-variants.{At, Full}
+use Rattle.unique.specs.Node.{foundReply, MakesNode}
 use Rattle.unique.specs.Search.{Named, FoundAs, Grew}
 use Rattle.unique.proofs.Search.{Branch, made}
 
@@ -113,7 +113,7 @@ module _ {n at v : ℕ} {order t : List ℕ} (s : Split n order at v t) where
               (low-table ∙ depends-false v t h ∙ sym high-table)))
 
       -- the node of both
-      pub joined : {r : Grown} {f : List ℕ} → MakesNode e (q .used) v low high r f → Grew n order (nodesOf (flags n order) t) at t c used r f
+      pub joined : {r : Grown} {f : List ℕ} → MakesNode e (q .used) v low high (r .used) (foundReply (r .found)) f → Grew n order (nodesOf (flags n order) t) at t c used r f
       joined {r} {f} m =
           grew-more grown-low
           (grew-more (grows-within (branch-within 1 (omega arith) high-is) (b .grows))

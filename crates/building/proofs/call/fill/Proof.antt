@@ -2,15 +2,16 @@
 -- Assumes nothing.
 use mathlib.Core.Path.{refl}
 use borrow.Author.Needs.{needs}
+use Rattle.unique.proofs.Chain.{index-none}
 use Rattle.building.proofs.Held.{begin, within-held, end-full, end-found}
 use Rattle.building.proofs.call.fill.Statement.{statement}
 use Rattle.building.proofs.call.fill.Tie as tie
 
 returns : tie.Need-returns
-returns c = record { exceeds = end-full (c .before .before .before .before .before .before .before .pre) (c .before .before .before .draw .ensures) (c .enum-told .given .1); kept = refl }
+returns c = record { exceeds = end-full (c .before .before .before .before .before .before .before .before .pre) (c .before .before .before .draw .ensures .0) (c .enum-told .given .1); kept = refl }
 
 returns-2 : tie.Need-returns-2
-returns-2 c = end-found (c .before .before .before .before .before .before .before .before .before .before .before .before .before .before .pre) (c .before .before .before .before .before .before .before .before .before .before .draw .ensures) _ _ (c .before .before .before .before .before .before .before .found .given .1) (c .before .before .copy .ensures)
+returns-2 c = end-found (c .before .before .before .before .before .before .before .before .before .before .before .before .before .before .before .pre) (c .before .before .before .before .before .before .before .before .before .before .draw .ensures .0) _ _ (c .before .before .before .before .before .before .before .found .given .1) (c .before .before .copy .ensures)
 
 pub fill-spec : {M : Type 1} → statement M
 fill-spec =
@@ -19,12 +20,12 @@ fill-spec =
     (λ c. search needs)
     (λ c. search needs)
     (λ c. search needs)
-    (λ c κs. begin (c .before .before .before .pre))
+    (λ c κs. (begin (c .before .before .before .before .pre), index-none _))
     (λ c. search needs)
     (λ c. search needs)
     (λ c. search needs)
     (λ c. search needs)
-    (λ c. within-held (c .before .before .before .before .before .before .before .before .before .pre) (c .before .before .before .before .before .draw .ensures) _)
+    (λ c. within-held (c .before .before .before .before .before .before .before .before .before .before .pre) (c .before .before .before .before .before .draw .ensures .0) _)
     (λ c κs. search needs)
     returns
     (λ c. search needs)

@@ -18,14 +18,14 @@ use Rattle.unique.proofs.make.Reads as make-reads
 use Rattle.building.proofs.tree.+draw.{statement}
 use Rattle.building.proofs.tree.+draw.Tie.{close}
 
-abbrev μ-draw : Measures 2 draw-kinds.ps ℕ
+abbrev μ-draw : Measures 3 draw-kinds.ps ℕ
 μ-draw κs a = a .0 - a .1 .1 .1 .0
 
-abbrev draw-at : ℕ → In 2 draw-kinds.ps
-draw-at t = and 2 draw-kinds.ps (is 2 draw-kinds.ps μ-draw t) draw.Pre
+abbrev draw-at : ℕ → In 3 draw-kinds.ps
+draw-at t = and 3 draw-kinds.ps (is 3 draw-kinds.ps μ-draw t) draw.Pre
 
-abbrev draw-below : ℕ → In 2 draw-kinds.ps
-draw-below t = and 2 draw-kinds.ps (falls 2 draw-kinds.ps _<_ μ-draw t) draw.Pre
+abbrev draw-below : ℕ → In 3 draw-kinds.ps
+draw-below t = and 3 draw-kinds.ps (falls 3 draw-kinds.ps _<_ μ-draw t) draw.Pre
 
 pub +draw-spec : {M : Type 1} → statement M
 +draw-spec = close μ-draw λ t. draw-lts.spec (
@@ -40,63 +40,71 @@ pub +draw-spec : {M : Type 1} → statement M
 )
     (draw-at t)
     draw.Post
-    (λ c. let s = c .before .before .before .before in omega (arith, s .pre .1 .rows, s .pre .1 .row-fits))
-    (λ c κs. let s = c .before .before .before .before in omega (arith, row-lt _ (s .pre .1 .bits) (s .args .row)))
-    (λ c. rw (c .end-node .ensures) (leaf (c .before .before .before .before .before .pre .1) (c .before .before .if1 .taken)))
-    (λ c. omega (arith, c .before .before .before .pre .1 .few))
+    (λ c. let g = c .before .before .before .before .pre .1 .0 in omega (arith, g .rows, g .row-fits))
+    (λ c κs. let s = c .before .before .before .before in omega (arith, row-lt _ (s .pre .1 .0 .bits) (s .args .row)))
     (λ c.
-    let s = c .before .before .before .before in
-    omega (arith, flag-lt (s .pre .1) (c .before .if1 .left), s .pre .1 .few))
+    let p = c .before .before .before .before .before .pre .1 in
+    (rw (c .end-node .ensures) (leaf (p .0) (c .before .before .if1 .taken)), p .1))
+    (λ c. omega (arith, c .before .before .before .pre .1 .0 .few))
+    (λ c.
+    let g = c .before .before .before .before .pre .1 .0 in
+    omega (arith, flag-lt g (c .before .if1 .left), g .few))
     (λ c κs.
-    let s = c .before .before .before .before in (
-      omega (arith, s .pre .1 .row-fits, pow-mono (s .pre .1 .few)),
-      omega (arith, flag-lt (s .pre .1) (c .before .if1 .left), s .pre .1 .few),
+    let g = c .before .before .before .before .pre .1 .0 in (
+      omega (arith, g .row-fits, pow-mono (g .few)),
+      omega (arith, flag-lt g (c .before .if1 .left), g .few),
       omega arith,
     ))
     (λ c. search needs)
     (λ c κs.
-    let s = c .before .before .before .before .before .before in
-    (omega (arith, s .pre .0, c .before .before .before .if1 .left), first (s .pre .1) (c .before .before .before .if1 .left) _ (c .before .set-bit .ensures)))
+    let s = c .before .before .before .before .before .before .before .pre in
+    let h = c .before .before .before .before .if1 .left in
+    (omega (arith, s .0, h), (first (s .1 .0) h _ (c .before .before .set-bit .ensures), s .1 .1)))
     (λ c. search needs)
     (λ c. search needs)
     (λ c κs.
     let low = c .before .before .before .before .before in
-    let g = low .before .before .before .before .before .before .before .pre .1 in (
+    let g = low .before .before .before .before .before .before .before .before .pre .1 .0 in (
       omega (arith, g .row-fits, pow-mono (g .few)),
-      omega (arith, flag-lt g (low .before .before .before .before .if1 .left), g .few),
+      omega (arith, flag-lt g (low .before .before .before .before .before .if1 .left), g .few),
       omega arith,
     ))
     (λ c. search needs)
     (λ c κs.
-    let low = c .before .before .before .before .before .before .before in
-    let s = low .before .before .before .before .before .before .before .pre in
-    let h = low .before .before .before .before .if1 .left in
-    (omega (arith, s .0), second (s .1) h _ _ (c .before .set-bit2 .ensures) (low .draw .ensures)))
+    let low = c .before .before .before .before .before .before .before .before in
+    let s = low .before .before .before .before .before .before .before .before .pre in
+    let h = low .before .before .before .before .before .if1 .left in
+    (omega (arith, s .0), (second (s .1 .0) h _ _ (c .before .before .set-bit2 .ensures) (low .draw .ensures .0), low .draw .ensures .1)))
     (λ c. search needs)
     (λ c. search needs)
     (λ c κs.
-    let high = c .before .before .before .before .before .before in
-    let low = high .before .before .before .before .before .before .before .before in
-    (high .draw2 .ensures .grows .is-sound .fits, omega (arith, low .before .before .before .before .before .before .before .pre .1 .small, low .draw .ensures .grows .lent, high .draw2 .ensures .grows .lent)))
+    let high = c .before .before .before .before .before .before .before in
+    let low = high .before .before .before .before .before .before .before .before .before in
+    let g = low .before .before .before .before .before .before .before .before .pre .1 .0 in
+    (high .draw2 .ensures .0 .grows .is-sound .fits, omega (arith, g .small, low .draw .ensures .0 .grows .lent, high .draw2 .ensures .0 .grows .lent), high .draw2 .ensures .1))
     (λ c. search needs)
     (λ c.
     let low = c .before .before .before .before in
-    let g = low .before .before .before .before .before .before .before .pre .1 in
-    let h = low .before .before .before .before .if1 .left in
-    no-room-low (split g h) (branch-rule g h 0 _ (omega arith) (low .before .before .set-bit .ensures)) (c .enum-told .given .1) (low .draw .ensures))
+    let g = low .before .before .before .before .before .before .before .before .pre .1 .0 in
+    let h = low .before .before .before .before .before .if1 .left in
+    (no-room-low (split g h) (branch-rule g h 0 _ (omega arith) (low .before .before .before .set-bit .ensures)) (c .enum-told .given .1) (low .draw .ensures .0), low .draw .ensures .1))
     (λ c. search needs)
     (λ c.
     let high = c .before .before .before .before in
-    let low = high .before .before .before .before .before .before .before .before in
-    let g = low .before .before .before .before .before .before .before .pre .1 in
-    let h = low .before .before .before .before .if1 .left in
-    no-room-high (split g h) (branch-rule g h 0 _ (omega arith) (low .before .before .set-bit .ensures)) (branch-rule g h 1 _ (omega arith) (high .before .before .set-bit2 .ensures))
-    (low .draw .ensures) (high .draw2 .ensures) (c .enum-told2 .given .1))
+    let low = high .before .before .before .before .before .before .before .before .before in
+    let g = low .before .before .before .before .before .before .before .before .pre .1 .0 in
+    let h = low .before .before .before .before .before .if1 .left in (
+      no-room-high (split g h) (branch-rule g h 0 _ (omega arith) (low .before .before .before .set-bit .ensures)) (branch-rule g h 1 _ (omega arith) (high .before .before .before .set-bit2 .ensures))
+          (low .draw .ensures .0) (high .draw2 .ensures .0) (c .enum-told2 .given .1),
+      high .draw2 .ensures .1,
+    ))
     (λ c. search needs)
     (λ c.
-    let high = c .before .before .before .before .before .before .before .before .before in
-    let low = high .before .before .before .before .before .before .before .before in
-    let g = low .before .before .before .before .before .before .before .pre .1 in
-    let h = low .before .before .before .before .if1 .left in
-    joined (split g h) (branch-rule g h 0 _ (omega arith) (low .before .before .set-bit .ensures)) (branch-rule g h 1 _ (omega arith) (high .before .before .set-bit2 .ensures))
-    (low .draw .ensures) (high .draw2 .ensures) (high .before .before .before .before .lower .given .1) (c .before .before .before .before .before .higher .given .1) (c .before .before .make .ensures))
+    let high = c .before .before .before .before .before .before .before .before .before .before in
+    let low = high .before .before .before .before .before .before .before .before .before in
+    let g = low .before .before .before .before .before .before .before .before .pre .1 .0 in
+    let h = low .before .before .before .before .before .if1 .left in (
+      joined (split g h) (branch-rule g h 0 _ (omega arith) (low .before .before .before .set-bit .ensures)) (branch-rule g h 1 _ (omega arith) (high .before .before .before .set-bit2 .ensures))
+          (low .draw .ensures .0) (high .draw2 .ensures .0) (high .before .before .before .before .before .lower .given .1) (c .before .before .before .before .before .before .higher .given .1) (c .before .before .make .ensures .0),
+      c .before .before .make .ensures .1,
+    ))
