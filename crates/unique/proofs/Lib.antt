@@ -1,3 +1,4 @@
 pub mod Extend
 pub mod Search
 pub mod Branches
+pub mod Settled
