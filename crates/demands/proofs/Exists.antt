@@ -31,7 +31,7 @@ use Rattle.unique.specs.Node.{Is, None, MakesNode, child, old, new, full}
 use Rattle.unique.specs.Search.{Grew}
 use Rattle.building.specs.Draw.{Drawing, Draw}
 use Rattle.building.specs.Fill.{Fits}
-use Rattle.unique.proofs.Branches.{no-room-low, no-room-high, joined}
+use Rattle.unique.proofs.Branches.{no-room-low, no-room-high, both-found}
 use Rattle.building.proofs.Branches.{leaf, split, branch-rule, first, second}
 use Rattle.building.proofs.Filled.{start, filled, exceeds}
 
@@ -139,7 +139,7 @@ module _ {n at row used : ℕ} {t order c : List ℕ} (g : Drawing n t order at 
   high-drawn at-low a b Full e = (_, _, no-room-high (split g h) (rule 0 (omega arith)) (rule 1 (omega arith)) a b e)
   high-drawn at-low a b (At high) e =
       let (r, d, m) = makes _ _ (getD order at 0) _ high (b .grows .is-sound .fits) in
-      (r, d, joined (split g h) (rule 0 (omega arith)) (rule 1 (omega arith)) a b at-low e m)
+      (r, d, both-found (split g h) (rule 0 (omega arith)) (rule 1 (omega arith)) a b (omega arith) (omega arith) at-low e m)
 
   low-drawn : {p : Grown} {d : List ℕ} → Draw n t order (at + 1) (setBit row (getD order at 0) 0) c used p d → (f : Found) → p .found ≡ f
       → Drawn n t order at row c used

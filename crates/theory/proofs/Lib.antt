@@ -24,4 +24,5 @@ pub mod Counting
 pub mod Needed
 pub mod Growth
 pub mod Restrict
+pub mod Apply
 pub mod Refused

@@ -8,7 +8,7 @@ use borrow.Fn.PlainCycle.{Measures, is, falls, and}
 use lib.Pow.{pow-mono}
 use Rattle.theory.proofs.Cofactor.{row-lt}
 use Rattle.building.proofs.Branches.{leaf, flag-lt, split, branch-rule, first, second}
-use Rattle.unique.proofs.Branches.{no-room-low, no-room-high, joined}
+use Rattle.unique.proofs.Branches.{no-room-low, no-room-high, both-found}
 use Rattle.building.proofs.tree.draw.Reads as draw
 use Rattle.building.proofs.tree.draw.Kinds as draw-kinds
 use Rattle.building.proofs.tree.+draw.Lts-draw as draw-lts
@@ -98,5 +98,5 @@ pub +draw-spec : {M : Type 1} → statement M
     let low = high .before .before .before .before .before .before .before .before in
     let g = low .before .before .before .before .before .before .before .pre .1 in
     let h = low .before .before .before .before .if1 .left in
-    joined (split g h) (branch-rule g h 0 _ (omega arith) (low .before .before .set-bit .ensures)) (branch-rule g h 1 _ (omega arith) (high .before .before .set-bit2 .ensures))
-    (low .draw .ensures) (high .draw2 .ensures) (high .before .before .before .before .lower .given .1) (c .before .before .before .before .before .higher .given .1) (c .before .before .make .ensures))
+    both-found (split g h) (branch-rule g h 0 _ (omega arith) (low .before .before .set-bit .ensures)) (branch-rule g h 1 _ (omega arith) (high .before .before .set-bit2 .ensures))
+    (low .draw .ensures) (high .draw2 .ensures) (omega arith) (omega arith) (high .before .before .before .before .lower .given .1) (c .before .before .before .before .before .higher .given .1) (c .before .before .make .ensures))
