@@ -1,32 +1,30 @@
 -- A whole drawing from cleared cells: it is the diagram of the table, or the table's diagram has more nodes than there is room for.
 -- Assumes nothing.
-use mathlib.Core.Path.{_≡_, sym, ap, subst, _∙_}
-use mathlib.Core.Logic.{⊎-elim}
+use mathlib.Core.Path.{_≡_, refl, sym, ap, subst, _∙_}
 use mathlib.Core.Bool.{true}
-use mathlib.Core.List.{List, _∷_}
+use mathlib.Core.List.{List}
 use Prim.Native.Nat.{ℕ, zero, suc, _+_, _<_}
 use native.Mathlib.Omega.{arith}
-use lib.ListN.{length, getD, replicate, length-replicate, length-map}
+use lib.ListN.{length, getD, replicate, length-replicate}
 use lib.Pow.{pow-pos}
 use borrow.Author.Tests.{ne-eqb}
-use Rattle.rule.specs.Bits.{below}
 use Rattle.rule.specs.Level.{nodesOf, size}
 use Rattle.rule.specs.Order.{flags}
 use Rattle.rule.specs.Cells.{room}
 use Rattle.rule.specs.Diagram.{tableOf, diagram}
-use Rattle.rule.specs.Results.{rootBy, recordTables}
-use Rattle.theory.proofs.Member.{In, map-in, cast, cases-cons}
-use Rattle.theory.proofs.Bits.{below-in, length-from}
-use Rattle.theory.proofs.Perm.{Within, once-length}
+use Rattle.rule.specs.Results.{rootBy}
+use Rattle.theory.proofs.Member.{In}
 use Rattle.theory.proofs.Sets.{Order}
 use Rattle.theory.proofs.Orders.{fit-order-is}
 use Rattle.theory.proofs.Sound.{view-sound, sound-cleared}
 use Rattle.theory.proofs.Walks.{smaller, walk-end, table-row}
 use Rattle.theory.proofs.Reach.{Diagram, all-reached, view-diagram, root-last}
-use Rattle.theory.proofs.Counting.{drawn-all-reached, used-size, tables-once}
+use Rattle.theory.proofs.Counting.{node-reached, used-size}
+use Rattle.theory.proofs.Needed.{needed-size}
 use Rattle.unique.specs.declared.node.Found.the-variants.{Full}
 use Rattle.unique.specs.Node.{grown}
 use Rattle.unique.specs.Search.{Grew}
+use Rattle.unique.proofs.Settled.{unsettled}
 use Rattle.building.specs.Draw.{Drawing}
 use Rattle.building.specs.Fill.{Fits, Filled}
 
@@ -54,9 +52,9 @@ module _ {n : ℕ} {t order c : List ℕ} (f : Fits n t order c) where
         record {
           cells = a .grows .is-sound;
           root-is = a .is .node;
-          reached = all-reached d used root .0
-              (drawn-all-reached (a .grows .is-sound) ord root (a .is .node)
-              (λ k h. subst (λ (u : List ℕ). In (tableOf n d (k + 2)) (nodesOf (flags n order) u)) (sym (a .is .table)) (a .grows .within k (omega arith) h)));
+          reached = λ k h.
+              node-reached (a .grows .is-sound) ord k root h (a .is .node)
+              (subst (λ (u : List ℕ). In (tableOf n d (k + 2)) (nodesOf (flags n order) u)) (sym (a .is .table)) (a .grows .within k (omega arith) h));
         }
 
     count : used ≡ size (flags n order) t
@@ -88,36 +86,13 @@ module _ {n : ℕ} {t order c : List ℕ} (f : Fits n t order c) where
         lent : length d ≡ length c
         lent = a .grows .lent ∙ length-replicate (length c) 0
 
-  -- one node more than there is room for
+  -- the table's diagram needs more records than there is room for
   module _ {used : ℕ} {d : List ℕ} (a : Grew n order (nodesOf (flags n order) t) 0 t (replicate (length c) 0) 0 (record { used = used; found = Full }) d) where
-    tables : List (List ℕ)
-    tables = recordTables n d used
-
-    missing-new : In (a .is .missing) tables → ⊥
-    unfolding tables
-    missing-new m =
-        let (k, h, e) = map-in (λ (k : ℕ). tableOf n d (k + 2)) (below used) m in
-        a .is .absent k (below-in h) e
-
-    called : Within (a .is .missing ∷ tables) (nodesOf (flags n order) t)
-    unfolding tables
-    called u m =
-        ⊎-elim
-        (λ e. cast e (a .is .called))
-        (λ q.
-        let (k, h, e) = map-in (λ (k : ℕ). tableOf n d (k + 2)) (below used) q in
-        cast (sym e) (a .grows .within k (omega arith) (below-in h)))
-        (cases-cons m)
-
     pub exceeds : room c < size (flags n order) t
-    unfolding tables
     exceeds =
         omega (
           arith,
-          once-length (a .is .missing ∷ tables) (nodesOf (flags n order) t) (missing-new, tables-once (a .grows .is-sound) ord) called,
-          length-map (below used) (λ (k : ℕ). tableOf n d (k + 2)),
-          length-from 0 used,
-          a .is .full,
-          a .grows .lent,
+          unsettled (record { n = n; places = order; used = 0 }) (sound-cleared n order (length c)) ord a refl .exceeds,
+          needed-size n order (replicate (length c) 0) 0 t,
           length-replicate {A = ℕ} (length c) 0,
         )

@@ -2,7 +2,6 @@
 -- Assumes nothing.
 use mathlib.Core.Path.{_≡_, refl, ap, subst}
 use mathlib.Core.Logic.{_⊎_, inl, inr}
-use mathlib.Core.Bool.{Bool, true, false}
 use mathlib.Core.List.{List, [], _∷_, _++_}
 use Prim.Native.Nat.{ℕ, zero, suc, _+_, _^_, _≤_, _<_}
 use native.Mathlib.Nat.{eq-or-lt-of-le, le-of-suc-le-suc}
@@ -12,13 +11,14 @@ use borrow.Author.Tests.{eqb-true}
 use lib.ListN.{length, getD, take, replicate, length-append, length-replicate}
 use lib.Pow.{pow-mono}
 use Rattle.rule.specs.Bits.{setBit}
-use Rattle.rule.specs.Tests.{addIf, keep}
+use Rattle.rule.specs.Tests.{keep}
 use Rattle.rule.specs.Table.{fitLength, cofactor, depends, fixings}
 use Rattle.rule.specs.Level.{distinct, levelNodes, levelCount, nodesFrom, nodesOf, size}
 use Rattle.rule.specs.Order.{flags}
 use Rattle.rule.specs.Cells.{mostCells, room, flagAt, lowAt, highAt}
 use Rattle.rule.specs.Reduced.{DrawnAs}
 use Rattle.rule.specs.Demands.{Fit}
+use Rattle.theory.proofs.Tests.{length-keep}
 use Rattle.theory.proofs.Perm.{once-length}
 use Rattle.theory.proofs.Distinct.{distinct-in, distinct-once}
 use Rattle.theory.proofs.Orders.{order-length, fit-order-is}
@@ -32,7 +32,7 @@ use Rattle.unique.specs.Node.{foundReply, grown, Is, None, MakesNode, child, ol
 use Rattle.unique.specs.Search.{Grew}
 use Rattle.building.specs.Draw.{Drawing, Draw}
 use Rattle.building.specs.Fill.{Fits}
-use Rattle.unique.proofs.Branches.{no-room-low, no-room-high, joined}
+use Rattle.unique.proofs.Branches.{no-room-low, no-room-high, both-found}
 use Rattle.building.proofs.Branches.{leaf, split, branch-rule, first, second}
 use Rattle.building.proofs.Filled.{start, filled, exceeds}
 
@@ -46,15 +46,6 @@ length-fixings (i ∷ l) t =
     let q : length (fixings l (cofactor i 0 t) ++ fixings l (cofactor i 1 t)) ≡ 2 ^ suc (length l) =
     omega (arith, length-fixings l (cofactor i 0 t), length-fixings l (cofactor i 1 t)) in
     q
-
-length-keep : {A : Type 0} (p : A → Bool) (l : List A) → length (keep p l) ≤ length l
-unfolding keep
-length-keep p [] = omega arith
-length-keep p (x ∷ l) = go (p x) (length-keep p l)
-  where
-    go : (b : Bool) → length (keep p l) ≤ length l → length (addIf b x (keep p l)) ≤ suc (length l)
-    go true h = omega arith
-    go false h = omega arith
 
 -- a level has at most as many as there are ways to fix the flags before it
 level-few : (before : List ℕ) (v : ℕ) (t : List ℕ) → levelCount before v t ≤ 2 ^ length before
@@ -150,7 +141,7 @@ module _ {n at row used : ℕ} {t order c : List ℕ} (g : Drawing n t order at 
   high-drawn at-low a b Full e = (_, _, no-room-high (split g h) (rule 0 (omega arith)) (rule 1 (omega arith)) a b e)
   high-drawn at-low a b (At high) e =
       let (r, d, m) = makes _ _ (getD order at 0) _ high (b .grows .is-sound .fits) in
-      (r, d, joined (split g h) (rule 0 (omega arith)) (rule 1 (omega arith)) a b at-low e m)
+      (r, d, both-found (split g h) (rule 0 (omega arith)) (rule 1 (omega arith)) a b (omega arith) (omega arith) at-low e m)
 
   low-drawn : {p : Grown} {d : List ℕ} → Draw n t order (at + 1) (setBit row (getD order at 0) 0) c used p d → (f : Found) → p .found ≡ f
       → Drawn n t order at row c used

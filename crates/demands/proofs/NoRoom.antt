@@ -7,7 +7,7 @@ use Prim.Native.Nat.{ℕ, zero, suc, _+_, _^_, _<_}
 use native.Mathlib.Omega.{arith}
 use borrow.Author.Tests.{ltb-true, ltb-false, lt-ltb, eq-eqb, not-false}
 use lib.Dec.{eqb, ltb}
-use lib.ListN.{length, getD, length-map}
+use lib.ListN.{length, getD}
 use Rattle.rule.specs.Bits.{below}
 use Rattle.rule.specs.Table.{fitLength, fitRows, tabled}
 use Rattle.rule.specs.Level.{size}
@@ -21,10 +21,10 @@ use Rattle.rule.specs.Reply.{Reply, reply, numberOf}
 use Rattle.rule.specs.Calls.{State, Build, Makes, Flag, Join, Choose, Fix, Pack}
 use Rattle.rule.specs.Demands.{Fit, NoRoomFor}
 use Rattle.theory.proofs.Tests.{and-split, in-each}
-use Rattle.theory.proofs.Bits.{length-from, bit-lt}
+use Rattle.theory.proofs.Bits.{bit-lt}
 use Rattle.theory.proofs.Cofactor.{length-cofactor, row-lt, cofactor-rows}
 use Rattle.theory.proofs.Sound.{sound-view}
-use Rattle.theory.proofs.Walks.{smaller, length-table, fit-table}
+use Rattle.theory.proofs.Walks.{smaller, length-tabled, length-table, fit-table}
 use Rattle.theory.proofs.Orders.{fit-order-is, packed-is}
 use Rattle.demands.proofs.Stands.{Passed}
 use Rattle.demands.proofs.Counts.{counts}
@@ -109,7 +109,7 @@ no-room-made s s′ c t d own r other l b q made e more m sound-e le kept hm is-
 tabled-made : (n : ℕ) (f : ℕ → ℕ) → ((r : ℕ) → f r < 2) → Made n (tabled n f)
 unfolding fitRows
 tabled-made n f h =
-    (length-map (below (2 ^ n)) f ∙ length-from 0 (2 ^ n), in-each _ _ (λ x i. let (r, j, e) = of-map f (below (2 ^ n)) i in lt-ltb x 2 (omega (arith, h r))))
+    (length-tabled n f, in-each _ _ (λ x i. let (r, j, e) = of-map f (below (2 ^ n)) i in lt-ltb x 2 (omega (arith, h r))))
 
 digit-lt : (code a b : ℕ) → digit code a b < 2
 digit-lt code a b = omega arith

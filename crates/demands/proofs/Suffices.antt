@@ -3,26 +3,23 @@
 -- Assumes nothing.
 use mathlib.Core.Path.{_≡_, refl, sym, ap, _∙_, subst}
 use mathlib.Core.Logic.{inl, inr}
-use mathlib.Core.Bool.{Bool, true, not}
-use mathlib.Core.List.{List, map}
-use Prim.Native.Nat.{ℕ, zero, suc, _+_, _-_, _≤_, _<_}
+use mathlib.Core.Bool.{true}
+use mathlib.Core.List.{List}
+use Prim.Native.Nat.{ℕ, zero, suc, _+_, _≤_, _<_}
 use native.Mathlib.Nat.{eq-or-lt-of-le}
 use native.Mathlib.Decide.{decLt}
 use native.Mathlib.Omega.{arith}
-use lib.ListN.{length-map}
-use Rattle.rule.specs.Bits.{from, below}
-use Rattle.rule.specs.Tests.{among}
+use Rattle.rule.specs.Bits.{below}
 use Rattle.rule.specs.Table.{depends}
 use Rattle.rule.specs.Level.{nodesOf}
 use Rattle.rule.specs.Order.{flags, level}
 use Rattle.rule.specs.Cells.{sound, flagAt, lowAt, highAt, recordOf}
 use Rattle.rule.specs.Diagram.{tableOf}
-use Rattle.rule.specs.Results.{recordTables, lacking, needed}
+use Rattle.rule.specs.Results.{recordTables, needed}
 use Rattle.rule.specs.Demands.{Fit}
 use Rattle.theory.proofs.Member.{In, cast, in-map, map-in}
-use Rattle.theory.proofs.Bits.{length-from, below-in, in-below, from-in}
-use Rattle.theory.proofs.Tests.{among?, in-keep}
-use Rattle.theory.proofs.Perm.{Once, once-length, once-from, once-map}
+use Rattle.theory.proofs.Bits.{below-in, in-below}
+use Rattle.theory.proofs.Tests.{among?}
 use Rattle.theory.proofs.Orders.{fit-order-is}
 use Rattle.theory.proofs.Sets.{Order}
 use Rattle.theory.proofs.Levels.{level-lt}
@@ -32,12 +29,12 @@ use Rattle.theory.proofs.Sound.{sound-view, view-sound}
 use Rattle.theory.proofs.Walks.{node, smaller, table-kept}
 use Rattle.theory.proofs.Canonical.{level-end, level-record, child-later, mix, table-mix, canonical, asks, depends-asks}
 use Rattle.theory.proofs.Counting.{record-node}
+use Rattle.theory.proofs.Needed.{needed-least, needed-most}
 use Rattle.unique.specs.Node.{None}
 use Rattle.cells.proofs.Added.{Added, longer, added-longer}
 use Rattle.unique.proofs.Extend.{Allowed, extended}
 use Rattle.demands.proofs.Counts.{drawn-diagram}
 use Rattle.demands.proofs.Exists.{exists}
-use Rattle.demands.proofs.Needs.{needs}
 
 -- a node stands later than a flag if a node of the same table does, in whichever cells
 later : {n most more : ℕ} {order e d : List ℕ} → Sound n order e most → Sound n order d more → Order n (flags n order) → (v m p : ℕ) → v < n
@@ -182,7 +179,6 @@ module _ {n used most : ℕ} {order c e : List ℕ} (goal : List (List ℕ)) (s 
 pub suffices : (n : ℕ) (order t : List ℕ) → Fit n order t → (c : List ℕ) (used : ℕ) → sound n order c used ≡ true
     → (d : List ℕ) × (m : ℕ) × (sound n order d (used + needed n order c used t) ≡ true) × ((k : ℕ) → k ≤ used + 1 → tableOf n d k ≡ tableOf n c k)
     × (m ≤ used + needed n order c used t + 1) × (tableOf n d m ≡ t)
-unfolding lacking
 suffices n order t f c used sc =
     let (e, most, root, y) = exists n order t f in
     let z = drawn-diagram y in
@@ -196,43 +192,11 @@ suffices n order t f c used sc =
     o : Order n (flags n order)
     o = fit-order-is n order (f .order-fits)
 
-    lacks : List ℕ → Bool
-    lacks u = not (among u (recordTables n c used))
-
     whole : (d : List ℕ) (more m : ℕ) → Sound n order d more → used ≤ more → ((k : ℕ) → k ≤ used + 1 → tableOf n d k ≡ tableOf n c k)
         → ((k : ℕ) → used ≤ k → k < more → In (tableOf n d (k + 2)) (nodesOf (flags n order) t)) → m ≤ more + 1 → tableOf n d m ≡ t
         → (d : List ℕ) × (m : ℕ) × (sound n order d (used + needed n order c used t) ≡ true) × ((k : ℕ) → k ≤ used + 1 → tableOf n d k ≡ tableOf n c k)
         × (m ≤ used + needed n order c used t + 1) × (tableOf n d m ≡ t)
     whole d more m s le kept called hm tm =
-        let sd = view-sound n order d more s in
-        let enough : used + needed n order c used t ≤ more = needs n order t f c d used more m sc sd le kept hm tm in
-        let few = once-length added (lacking n order c used t) once within in
         let is : more ≡ used + needed n order c used t =
-        omega (arith, length-map (from used (more - used)) (λ k. tableOf n d (k + 2)), length-from used (more - used)) in
-        (d, m, subst (λ (k : ℕ). sound n order d k ≡ true) is sd, kept, omega arith, tm)
-      where
-        added : List (List ℕ)
-        added = map (λ k. tableOf n d (k + 2)) (from used (more - used))
-
-        one : (j k : ℕ) → j < more → k < more → tableOf n d (j + 2) ≡ tableOf n d (k + 2) → j ≡ k
-        one j k hj hk q = omega (arith, canonical s o (j + 2) (k + 2) (omega arith) (omega arith) q)
-
-        once : Once added
-        once =
-            once-map (λ k. tableOf n d (k + 2)) (from used (more - used))
-            (λ j k mj mk. one j k (omega (arith, from-in used (more - used) j mj)) (omega (arith, from-in used (more - used) k mk)))
-            (once-from used (more - used))
-
-        within : (u : List ℕ) → In u added → In u (lacking n order c used t)
-        within u i =
-            let (k, mk, q) = map-in (λ k. tableOf n d (k + 2)) (from used (more - used)) i in
-            let (a, b) = from-in used (more - used) k mk in
-            in-keep lacks (nodesOf (flags n order) t) (cast (sym q) (called k a (omega arith)))
-            (elim (among? u (recordTables n c used)) [
-              | inr (y, _) ↦ ap not y
-              | inl (_, y) ↦
-                  let (j, mj, r) = map-in (λ k. tableOf n c (k + 2)) (below used) y in
-                  let hj : j < used = below-in mj in
-                  let w : j ≡ k = one j k (omega arith) (omega arith) (kept (j + 2) (omega arith) ∙ r ∙ sym q) in
-                  absurd (omega arith)
-            ])
+        omega (arith, needed-least c s o le kept t m hm tm, needed-most c s o le kept t called) in
+        (d, m, subst (λ (k : ℕ). sound n order d k ≡ true) is (view-sound n order d more s), kept, omega arith, tm)

@@ -16,6 +16,7 @@ use Rattle.rule.specs.Order.{flags, level}
 use Rattle.rule.specs.Cells.{flagAt, lowAt, highAt, recordOf}
 use Rattle.rule.specs.Diagram.{walk, tableOf}
 use Rattle.theory.proofs.Bits.{length-from, map-below, bit-lt, bit-same, bit-other, setBit-lt, setBit-own}
+use Rattle.theory.proofs.Tests.{cond-same}
 use Rattle.theory.proofs.Cofactor.{length-cofactor, cofactor-row, depends-false, not-depends}
 use Rattle.theory.proofs.Sets.{Order, full-lt}
 use Rattle.theory.specs.Level.{levelOf}
@@ -41,11 +42,7 @@ mix-row v a b r h = map-below (λ (r : ℕ). cond (eqb (bit r v) 0) (getD a r 0)
 -- a table joined with itself is itself
 pub mix-same : (n v : ℕ) (t : List ℕ) → length t ≡ 2 ^ n → mix v t t ≡ t
 mix-same n v t l =
-    rows-eq n (mix v t t) t (length-mix v t t ∙ l) l (λ r h. mix-row v t t r (omega arith) ∙ pick (eqb (bit r v) 0) (getD t r 0))
-  where
-    pick : (b : Bool) (x : ℕ) → cond b x x ≡ x
-    pick true x = refl
-    pick false x = refl
+    rows-eq n (mix v t t) t (length-mix v t t ∙ l) l (λ r h. mix-row v t t r (omega arith) ∙ cond-same (eqb (bit r v) 0) (getD t r 0))
 
 -- a table is joined from its cofactors
 pub mix-cofactors : (n v : ℕ) (t : List ℕ) → length t ≡ 2 ^ n → mix v (cofactor v 0 t) (cofactor v 1 t) ≡ t

@@ -13,8 +13,7 @@ use Rattle.rule.specs.Tests.{keep}
 use Rattle.rule.specs.Level.{levelNodes, levelCount, nodesOf, size}
 use Rattle.rule.specs.Order.{flags, askedBefore}
 use Rattle.rule.specs.Cells.{flagAt, recordOf}
-use Rattle.rule.specs.Diagram.{reach, allReached, tableOf, asking}
-use Rattle.rule.specs.Results.{recordTables}
+use Rattle.rule.specs.Diagram.{reach, tableOf, asking}
 use Rattle.theory.proofs.Bits.{length-from, below-in, in-below}
 use Rattle.theory.proofs.Tests.{keep-in, in-keep}
 use Rattle.theory.proofs.Perm.{once-map, Once, Within, once-set, once-keep, once-from}
@@ -24,7 +23,7 @@ use Rattle.theory.specs.Sound.{Sound}
 use Rattle.theory.proofs.Levels.{asked-exactly, asked-turn}
 use Rattle.theory.proofs.Nodes.{nodes-is, nodes-once}
 use Rattle.theory.proofs.Walks.{length-table}
-use Rattle.theory.proofs.Reach.{all-reached, Diagram}
+use Rattle.theory.proofs.Reach.{Diagram}
 use Rattle.theory.proofs.Canonical.{level-record, canonical, asks, depends-asks}
 use Rattle.theory.proofs.Descents.{descents, fixings-descents, descents-in, reach-descents}
 
@@ -67,7 +66,8 @@ module _ {n used : ℕ} {order c : List ℕ} (s : Sound n order c used) (o : Ord
   record-node k m h hm r =
       nodes-is o (tableOf n c m) (length-table n c m) (tableOf n c (k + 2)) .1 (flagAt c k, s .flag k h, record-level k m h hm r)
 
-  record-one : (j k : ℕ) → j < used → k < used → tableOf n c (j + 2) ≡ tableOf n c (k + 2) → j ≡ k
+  -- no two records have one table
+  pub record-one : (j k : ℕ) → j < used → k < used → tableOf n c (j + 2) ≡ tableOf n c (k + 2) → j ≡ k
   record-one j k hj hk e = omega (arith, canonical s o (j + 2) (k + 2) (omega arith) (omega arith) e)
 
   -- records are as many as the tables that they have
@@ -82,14 +82,11 @@ module _ {n used : ℕ} {order c : List ℕ} (s : Sound n order c used) (o : Ord
       (λ u m. let (k, mk, e) = of-map (λ k. tableOf n c (k + 2)) ks m in cast (sym e) (f k mk))
       (λ u m. let (k, mk, e) = g u m in cast (sym e) (in-map (λ k. tableOf n c (k + 2)) mk))
 
-  -- cells in which every record's table is a node of the root's are a diagram
-  pub drawn-all-reached : (root : ℕ) → root ≤ used + 1
-      → ((k : ℕ) → k < used → In (tableOf n c (k + 2)) (nodesOf (flags n order) (tableOf n c root))) → allReached c used root ≡ true
-  drawn-all-reached root hr f =
-      all-reached c used root .1
-      (λ k h.
-      let (j, hj, r, e) = node-record root hr (f k h) in
-      subst (λ (x : ℕ). reach c root (x + 2) ≡ true) (record-one j k hj h e) r)
+  -- a record whose table is a node of another's table is reached from it
+  pub node-reached : (k m : ℕ) → k < used → m ≤ used + 1 → In (tableOf n c (k + 2)) (nodesOf (flags n order) (tableOf n c m)) → reach c m (k + 2) ≡ true
+  node-reached k m h hm i =
+      let (j, hj, r, e) = node-record m hm i in
+      subst (λ (x : ℕ). reach c m (x + 2) ≡ true) (record-one j k hj h e) r
 
 -- ---- diagrams
 
@@ -140,12 +137,3 @@ friedman-asking {n} {root} {order} {order′} {c} x y o o′ e v hv w w′ =
 pub same-asking : {n used used′ root root′ : ℕ} {order c d : List ℕ} → Diagram n order c used root → Diagram n order d used′ root′
     → Order n (flags n order) → tableOf n c root ≡ tableOf n d root′ → (v : ℕ) → v < n → asking c used v ≡ asking d used′ v
 same-asking x y o e v hv = friedman-asking x y o o e v hv (λ i m. m) (λ i m. m)
-
--- no two records have one table
-pub tables-once : {n used : ℕ} {order c : List ℕ} → Sound n order c used → Order n (flags n order) → Once (recordTables n c used)
-tables-once {n} {used} {order} {c} s o =
-    once-map (λ k. tableOf n c (k + 2)) (below used)
-    (λ j k mj mk e.
-    let q : j + 2 ≡ k + 2 = canonical s o (j + 2) (k + 2) (omega (arith, below-in mj)) (omega (arith, below-in mk)) e in
-    omega arith)
-    (once-from 0 used)

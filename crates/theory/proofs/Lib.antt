@@ -21,6 +21,8 @@ pub mod Reach
 pub mod Reduced
 pub mod Descents
 pub mod Counting
+pub mod Needed
 pub mod Growth
 pub mod Restrict
+pub mod Apply
 pub mod Refused

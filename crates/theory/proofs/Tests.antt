@@ -2,9 +2,9 @@
 -- Assumes nothing.
 use mathlib.Core.Path.{_≡_, refl, sym, ap, ap₂, _∙_}
 use mathlib.Core.Logic.{_⊎_, inl, inr}
-use mathlib.Core.Bool.{Bool, true, false, _&&_, true≢false, false≢true}
+use mathlib.Core.Bool.{Bool, true, false, cond, _&&_, true≢false, false≢true}
 use mathlib.Core.List.{List, [], _∷_}
-use Prim.Native.Nat.{ℕ, zero, suc, _<_, suc-le-suc}
+use Prim.Native.Nat.{ℕ, zero, suc, _≤_, _<_, suc-le-suc}
 use native.Mathlib.Omega.{arith}
 use borrow.Author.Tests.{eqb-true, eq-eqb}
 use lib.Dec.{eqb}
@@ -30,6 +30,10 @@ and-split false b e = absurd (false≢true e)
 
 pub and-join : {a b : Bool} → a ≡ true → b ≡ true → (a && b) ≡ true
 and-join e f = rw (e, f)
+
+pub cond-same : (b : Bool) (x : ℕ) → cond b x x ≡ x
+cond-same true x = refl
+cond-same false x = refl
 
 same-eq : (x y : List ℕ) → same x y ≡ true → x ≡ y
 unfolding same
@@ -60,6 +64,9 @@ among? t (u ∷ us) =
             | inr k ↦ inr (rw (h .0, k .0), λ m. elim (cases-cons m) [ inl e ↦ h .1 e | inr j ↦ k .1 j ])
           ]
     ]
+
+pub in-among : {t : List ℕ} {us : List (List ℕ)} → In t us → among t us ≡ true
+in-among {t} {us} m = elim (among? t us) [ inl h ↦ h .0 | inr h ↦ absurd (h .1 m) ]
 
 -- ---- each member passes, and the members that pass
 
@@ -109,6 +116,15 @@ module _ {A : Type 0} (p : A → Bool) where
       go true e (inr k) ih = tail (ih k)
       go false e (inl k) ih = absurd (true≢false (sym h ∙ ap p k ∙ e))
       go false e (inr k) ih = ih k
+
+  pub length-keep : (l : List A) → length (keep p l) ≤ length l
+  unfolding keep
+  length-keep [] = omega arith
+  length-keep (x ∷ l) = go (p x) (length-keep l)
+    where
+      go : (b : Bool) → length (keep p l) ≤ length l → length (addIf b x (keep p l)) ≤ suc (length l)
+      go true h = omega arith
+      go false h = omega arith
 
 -- each number below n passes
 pub each-below : (p : ℕ → Bool) (n : ℕ) → each p (below n) ≡ true → (k : ℕ) → k < n → p k ≡ true

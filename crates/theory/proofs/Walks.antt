@@ -13,7 +13,7 @@ use lib.Dec.{eqb}
 use lib.ListN.{length, getD, length-map}
 use lib.Seq.{ext-getD}
 use Rattle.rule.specs.Bits.{bit, below}
-use Rattle.rule.specs.Table.{fitRows}
+use Rattle.rule.specs.Table.{tabled, fitRows}
 use Rattle.rule.specs.Cells.{width, flagAt, lowAt, highAt, recordOf}
 use Rattle.rule.specs.Diagram.{step, walkIn, walk, tableOf}
 use Rattle.theory.proofs.Bits.{length-from, map-below}
@@ -123,11 +123,17 @@ module _ {c : List ℕ} {used : ℕ} (s : Smaller c used) where
 
 -- ---- tables
 
+pub length-tabled : (n : ℕ) (f : ℕ → ℕ) → length (tabled n f) ≡ 2 ^ n
+length-tabled n f = length-map (below (2 ^ n)) f ∙ length-from 0 (2 ^ n)
+
+pub tabled-row : (n : ℕ) (f : ℕ → ℕ) (r : ℕ) → r < 2 ^ n → getD (tabled n f) r 0 ≡ f r
+tabled-row n f r h = map-below f (2 ^ n) r 0 h
+
 pub length-table : (n : ℕ) (c : List ℕ) (m : ℕ) → length (tableOf n c m) ≡ 2 ^ n
-length-table n c m = length-map (below (2 ^ n)) _ ∙ length-from 0 (2 ^ n)
+length-table n c m = length-tabled n (walk c m)
 
 pub table-row : (n : ℕ) (c : List ℕ) (m r : ℕ) → r < 2 ^ n → getD (tableOf n c m) r 0 ≡ walk c m r
-table-row n c m r h = map-below (walk c m) (2 ^ n) r 0 h
+table-row n c m r h = tabled-row n (walk c m) r h
 
 -- tables of n flags are equal by their rows
 pub rows-eq : (n : ℕ) (t u : List ℕ) → length t ≡ 2 ^ n → length u ≡ 2 ^ n → ((r : ℕ) → r < 2 ^ n → getD t r 0 ≡ getD u r 0) → t ≡ u

@@ -4,7 +4,7 @@
 use mathlib.Core.Path.{_≡_, refl, sym, subst, subst₂, _∙_}
 use mathlib.Core.Bool.{Bool, true, false}
 use mathlib.Core.List.{List}
-use Prim.Native.Nat.{ℕ, _+_, _^_, _<_}
+use Prim.Native.Nat.{ℕ, _^_, _<_}
 use native.Mathlib.Omega.{arith}
 use lib.ListN.{length}
 use Rattle.rule.specs.Table.{cofactor, depends}
@@ -23,7 +23,7 @@ use Rattle.unique.specs.declared.node.Grown.{Grown}
 use Rattle.unique.specs.declared.node.Found.{Found}
 use Rattle.unique.specs.declared.node.Found.the-variants.{At, Full}
 use Rattle.unique.specs.Node.{foundReply, MakesNode}
-use Rattle.unique.specs.Search.{Named, FoundAs, Grew}
+use Rattle.unique.specs.Search.{Named, Lacks, FoundAs, Grew}
 use Rattle.unique.proofs.Search.{Branch, made}
 
 -- ---- what a search left
@@ -33,10 +33,9 @@ module _ {n used l : ℕ} {order t c d : List ℕ} {r : Grown} where
   pub named : {goal : List (List ℕ)} {m : ℕ} → r .found ≡ At m → Grew n order goal l t c used r d → Named n order l t d (r .used) m
   named {goal} e x = subst (λ (f : Found). FoundAs f n order goal l t d (r .used)) e (x .is)
 
-  -- that there is no room says nothing of the rule
-  full : {goal : List (List ℕ)} (k : ℕ) (u : List ℕ) → r .found ≡ Full → Grew n order goal l t c used r d
-      → Grew n order goal k u c used (record { used = r .used; found = Full }) d
-  full {goal} k u e x = record { grows = x .grows; is = subst (λ (f : Found). FoundAs f n order goal l t d (r .used)) e (x .is) }
+  -- or what is lacking
+  pub lacks : {goal : List (List ℕ)} → r .found ≡ Full → Grew n order goal l t c used r d → Lacks n goal d (r .used)
+  lacks {goal} e x = subst (λ (f : Found). FoundAs f n order goal l t d (r .used)) e (x .is)
 
   -- a larger goal
   pub grew-within : {goal goal′ : List (List ℕ)} → Within goal goal′ → Grew n order goal l t c used r d → Grew n order goal′ l t c used r d
@@ -64,24 +63,24 @@ module _ {n at v : ℕ} {order t : List ℕ} (s : Split n order at v t) where
   branch-within b h e = rw e (nodes-cofactor (s .is-order) t (s .rows) (s .ignores) v (s .flag) (s .place) b h)
 
   -- no room in the low branch is no room for the rule
-  pub no-room-low : {used : ℕ} {u c d : List ℕ} {p : Grown} → u ≡ cofactor v 0 t → p .found ≡ Full → Grew n order (nodesOf (flags n order) u) (at + 1) u c used p d
+  pub no-room-low : {used l : ℕ} {u c d : List ℕ} {p : Grown} → u ≡ cofactor v 0 t → p .found ≡ Full → Grew n order (nodesOf (flags n order) u) l u c used p d
       → Grew n order (nodesOf (flags n order) t) at t c used (record { used = p .used; found = Full }) d
-  no-room-low e f a = full at t f (grew-within (branch-within 0 (omega arith) e) a)
+  no-room-low e f a = let x = grew-within (branch-within 0 (omega arith) e) a in record { grows = x .grows; is = lacks f x }
 
-  module _ {used : ℕ} {u w c d e : List ℕ} {p q : Grown} (low-is : u ≡ cofactor v 0 t) (high-is : w ≡ cofactor v 1 t)
-      (a : Grew n order (nodesOf (flags n order) u) (at + 1) u c used p d) (b : Grew n order (nodesOf (flags n order) w) (at + 1) w d (p .used) q e) where
+  module _ {used k l : ℕ} {u w c d e : List ℕ} {p q : Grown} (low-is : u ≡ cofactor v 0 t) (high-is : w ≡ cofactor v 1 t)
+      (a : Grew n order (nodesOf (flags n order) u) k u c used p d) (b : Grew n order (nodesOf (flags n order) w) l w d (p .used) q e) where
     grown-low : Grows n order (nodesOf (flags n order) t) c used d (p .used)
     grown-low = grows-within (branch-within 0 (omega arith) low-is) (a .grows)
 
-    -- nor is there with no room in the high one
+    -- and so is no room in the high one
     pub no-room-high : q .found ≡ Full → Grew n order (nodesOf (flags n order) t) at t c used (record { used = q .used; found = Full }) e
-    no-room-high f = full at t f (grew-more grown-low (grew-within (branch-within 1 (omega arith) high-is) b))
+    no-room-high f = let x = grew-more grown-low (grew-within (branch-within 1 (omega arith) high-is) b) in record { grows = x .grows; is = lacks f x }
 
-    module _ {low high : ℕ} (at-low : p .found ≡ At low) (at-high : q .found ≡ At high) where
-      low-named : Named n order (at + 1) u d (p .used) low
+    module _ {low high : ℕ} (low-later : at < k) (high-later : at < l) (at-low : p .found ≡ At low) (at-high : q .found ≡ At high) where
+      low-named : Named n order k u d (p .used) low
       low-named = named at-low a
 
-      high-named : Named n order (at + 1) w e (q .used) high
+      high-named : Named n order l w e (q .used) high
       high-named = named at-high b
 
       low-table : tableOf n e low ≡ cofactor v 0 t
@@ -112,9 +111,9 @@ module _ {n at v : ℕ} {order t : List ℕ} (s : Split n order at v t) where
               absurd (differ (canonical (b .grows .is-sound) (s .is-order) low high (branches .low-old) (branches .high-old)
               (low-table ∙ depends-false v t h ∙ sym high-table)))
 
-      -- the node of both
-      pub joined : {r : Grown} {f : List ℕ} → MakesNode e (q .used) v low high (r .used) (foundReply (r .found)) f → Grew n order (nodesOf (flags n order) t) at t c used r f
-      joined {r} {f} m =
+      -- where both were found, the node that has them for children
+      pub both-found : {r : Grown} {f : List ℕ} → MakesNode e (q .used) v low high (r .used) (foundReply (r .found)) f → Grew n order (nodesOf (flags n order) t) at t c used r f
+      both-found {r} {f} m =
           grew-more grown-low
           (grew-more (grows-within (branch-within 1 (omega arith) high-is) (b .grows))
           (subst₂ (λ (l : ℕ) (x : List ℕ). Grew n order (nodesOf (flags n order) t) l x e (q .used) r f) (s .place) mixes

@@ -2,3 +2,4 @@ pub mod Chain
 pub mod Extend
 pub mod Search
 pub mod Branches
+pub mod Settled

@@ -8,7 +8,7 @@ use borrow.Fn.PlainCycle.{Measures, is, falls, and}
 use lib.Pow.{pow-mono}
 use Rattle.theory.proofs.Cofactor.{row-lt}
 use Rattle.building.proofs.Branches.{leaf, flag-lt, split, branch-rule, first, second}
-use Rattle.unique.proofs.Branches.{no-room-low, no-room-high, joined}
+use Rattle.unique.proofs.Branches.{no-room-low, no-room-high, both-found}
 use Rattle.building.proofs.tree.draw.Reads as draw
 use Rattle.building.proofs.tree.draw.Kinds as draw-kinds
 use Rattle.building.proofs.tree.+draw.Lts-draw as draw-lts
@@ -104,7 +104,7 @@ pub +draw-spec : {M : Type 1} → statement M
     let low = high .before .before .before .before .before .before .before .before .before in
     let g = low .before .before .before .before .before .before .before .before .pre .1 .0 in
     let h = low .before .before .before .before .before .if1 .left in (
-      joined (split g h) (branch-rule g h 0 _ (omega arith) (low .before .before .before .set-bit .ensures)) (branch-rule g h 1 _ (omega arith) (high .before .before .before .set-bit2 .ensures))
-          (low .draw .ensures .0) (high .draw2 .ensures .0) (high .before .before .before .before .before .lower .given .1) (c .before .before .before .before .before .before .higher .given .1) (c .before .before .make .ensures .0),
+      both-found (split g h) (branch-rule g h 0 _ (omega arith) (low .before .before .before .set-bit .ensures)) (branch-rule g h 1 _ (omega arith) (high .before .before .before .set-bit2 .ensures))
+          (low .draw .ensures .0) (high .draw2 .ensures .0) (omega arith) (omega arith) (high .before .before .before .before .before .lower .given .1) (c .before .before .before .before .before .before .higher .given .1) (c .before .before .make .ensures .0),
       c .before .before .make .ensures .1,
     ))
