@@ -93,7 +93,7 @@ module _ {n used v low high : ℕ} {order c : List ℕ} (s : Sound n order c use
       }
   made (new differ none space) =
       let x = added-put v low high (s .fits) (s .clear) space in
-      record { grows = added-grows differ none x (put-length c used v low high); is = added-named differ none x }
+      record { grows = added-grows differ none x (put-length c used v low high space); is = added-named differ none x }
   made (full differ none e) =
       record {
         grows = grows-none goal s;
