@@ -14,7 +14,7 @@ use borrow.Author.Tests.{eqb-true, eq-eqb}
 use Rattle.rule.specs.Bits.{below}
 use Rattle.rule.specs.Level.{size}
 use Rattle.rule.specs.Tests.{keep}
-use Rattle.rule.specs.Order.{flags, times, eachOnce, restZero, fitOrder, inPlaces, picks, gather, ordersOf, orders, leastOf, packed}
+use Rattle.rule.specs.Order.{flags, times, eachOnce, restZero, fitOrder, inPlaces, rising, picks, gather, ordersOf, orders, leastOf, packed}
 use Rattle.theory.proofs.Member.{In, head, tail, not-nil, cases-cons, append-cases, eq-of-singleton, cast, append-left, append-right, in-map, map-in, Perm, cons, swap, trans, perm-refl}
 use Rattle.theory.proofs.Bits.{length-from, below-in, in-below}
 use Rattle.theory.proofs.Tests.{and-split, and-join, each-in, each-at, at-each, below-each, keep-in, in-keep}
@@ -172,6 +172,10 @@ orders-are n o = (
   λ p. orders-whole n (below n) (once-from 0 n) (length-from 0 n) o (exactly-iff (λ i h. in-below h) (λ i k. below-in k) p),
 )
 
+-- the flags by their numbers are one
+below-order : (n : ℕ) → Order n (below n)
+below-order n = record { once = once-from 0 n; sound = λ i m. below-in m; whole = λ i h. in-below h }
+
 -- the definition gives the packed order
 pub packed-is : (n : ℕ) (t : List ℕ) → IsPacked n t (packed n t)
 unfolding packed leastOf
@@ -181,7 +185,7 @@ packed-is n t = go (orders n) refl
     cost o = size o t
 
     some : In (below n) (orders n)
-    some = orders-are n (below n) .1 (record { once = once-from 0 n; sound = λ i m. below-in m; whole = λ i h. in-below h })
+    some = orders-are n (below n) .1 (below-order n)
 
     go : (os : List (List ℕ)) → orders n ≡ os → IsPacked n t (leastOf cost os)
     go [] e = absurd (not-nil (rw e at some))
@@ -282,6 +286,10 @@ module _ (n : ℕ) (o : List ℕ) (h : n ≤ 10) (p : Order n o) where
       ∙ ap (λ (x : ℕ). getD (o ++ replicate (10 - n) 0) x 0) q
       ∙ getD-append-add o (replicate (10 - n) 0) (i - n) 0
       ∙ getD-replicate (10 - n) (i - n) 0 0 b)
+
+-- the rising order in its ten places
+pub rising-fit : (n : ℕ) → n ≤ 10 → fitOrder n (rising n) ≡ true
+rising-fit n h = in-places-fit n (below n) h (below-order n)
 
 -- the packed order in its ten places
 module _ (n : ℕ) (t : List ℕ) (h : n ≤ 10) where
