@@ -83,6 +83,10 @@ unfoldable pub leastOf : (List ℕ → ℕ) → List (List ℕ) → List ℕ
 leastOf cost [] = []
 leastOf cost (o ∷ os) = firstLeast cost o (cost o) os
 
+-- what orders are compared by, for a table: the number of nodes
+unfoldable pub rank : List ℕ → List ℕ → ℕ
+rank order t = size order t
+
 -- "The order has the fewest nodes of all n! orders; of several, the one first by dictionary comparison."
 unfoldable pub packed : ℕ → List ℕ → List ℕ
-packed n t = leastOf (λ o. size o t) (orders n)
+packed n t = leastOf (λ o. rank o t) (orders n)

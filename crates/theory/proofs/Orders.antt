@@ -14,7 +14,7 @@ use borrow.Author.Tests.{eqb-true, eq-eqb}
 use Rattle.rule.specs.Bits.{below}
 use Rattle.rule.specs.Level.{size}
 use Rattle.rule.specs.Tests.{keep}
-use Rattle.rule.specs.Order.{flags, times, eachOnce, restZero, fitOrder, inPlaces, rising, picks, gather, ordersOf, orders, leastOf, packed}
+use Rattle.rule.specs.Order.{flags, times, eachOnce, restZero, fitOrder, inPlaces, rising, picks, gather, ordersOf, orders, leastOf, rank, packed}
 use Rattle.theory.proofs.Member.{In, head, tail, not-nil, cases-cons, append-cases, eq-of-singleton, cast, append-left, append-right, in-map, map-in, Perm, cons, swap, trans, perm-refl}
 use Rattle.theory.proofs.Bits.{length-from, below-in, in-below}
 use Rattle.theory.proofs.Tests.{and-split, and-join, each-in, each-at, at-each, below-each, keep-in, in-keep}
@@ -22,7 +22,7 @@ use Rattle.theory.proofs.Perm.{Once, Within, Exactly, exactly-iff, late
 use Rattle.theory.proofs.Least.{Pairwise, pairwise-map, pairwise-append, Rising, rising-from, first-of, first-least}
 use Rattle.theory.proofs.Dynamic.{Lex, lex-refl, lex-trans}
 use Rattle.theory.proofs.Sets.{Order}
-use Rattle.theory.proofs.Packed.{IsPacked}
+use Rattle.theory.proofs.Packed.{IsPacked, fewest}
 
 -- ---- one flag taken out of a list
 
@@ -182,22 +182,23 @@ unfolding packed leastOf
 packed-is n t = go (orders n) refl
   where
     cost : List ℕ → ℕ
-    cost o = size o t
-
-    some : In (below n) (orders n)
-    some = orders-are n (below n) .1 (below-order n)
+    cost o = rank o t
 
     go : (os : List (List ℕ)) → orders n ≡ os → IsPacked n t (leastOf cost os)
-    go [] e = absurd (not-nil (rw e at some))
+    go [] e = absurd (not-nil (rw e at (orders-are n (below n) .1 (below-order n))))
     go (o ∷ os) e =
         let s : Sorted (o ∷ os) = rw e at (orders-sorted n (below n) (rising-from 0 n)) in
         let f = first-of cost Lex lex-refl lex-trans o os s in
         rw (first-least cost o os)
         (record {
           order = orders-are n _ .0 (rw e (f .member));
-          fewest = λ p q. f .least p (rw e at (orders-are n p .1 q));
+          lowest = λ p q. f .least p (rw e at (orders-are n p .1 q));
           first = λ p q z. f .first p (rw e at (orders-are n p .1 q)) z;
         })
+
+-- no order draws a table with fewer nodes than the packed one
+pub packed-fewest : (n : ℕ) (t o : List ℕ) → Order n o → size (packed n t) t ≤ size o t
+packed-fewest n t o p = fewest n t (packed n t) (packed-is n t) o p
 
 -- ---- orders in their ten places
 
