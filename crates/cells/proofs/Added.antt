@@ -1,15 +1,15 @@
 -- A record added behind the used ones: put where there is room, or in longer cells.
 -- Assumes nothing.
 use mathlib.Core.Path.{_≡_, sym, ap, _∙_}
+use mathlib.Core.Logic.{inl, inr}
 use mathlib.Core.List.{List, _++_}
 use Prim.Native.Nat.{ℕ, _+_, _*_, _≤_, _<_}
 use native.Mathlib.Nat.{add-zero}
 use native.Mathlib.Omega.{arith}
-use lib.ListN.{length, getD, take, length-append, List·getD-append, List·getD-eq-default}
-use lib.Seq.{length-take-le, getD-take, getD-append-add}
+use lib.ListN.{getD, take, List·getD-eq-default}
 use Rattle.rule.specs.Cells.{width, room, flagAt, lowAt, highAt, inCells}
 use Rattle.cells.specs.Record.{putRecord}
-use Rattle.cells.proofs.Record.{put-length, put-else, put-flag, put-low, put-high}
+use Rattle.cells.proofs.Record.{behind-length, behind-old, behind-own, put-length, put-else, put-flag, put-low, put-high}
 
 -- d is c with this record behind the used ones
 pub record Added (c : List ℕ) (used v low high : ℕ) (d : List ℕ) : Type 0 where
@@ -28,28 +28,23 @@ module _ {used : ℕ} {c : List ℕ} (v low high : ℕ) (within : used ≤ room 
   pub added-put : used < room c → Added c used v low high (putRecord c used v low high)
   added-put space =
       record {
-        fits = omega (arith, put-length c used v low high);
-        agree = λ i h. put-else c used v low high i (omega arith) (omega arith) (omega arith);
+        fits = omega (arith, put-length c used v low high space);
+        agree = λ i h. put-else c used v low high space i (inl h);
         flag-is = put-flag c used v low high space;
         low-is = put-low c used v low high space;
         high-is = put-high c used v low high space;
-        clear = λ i h. put-else c used v low high i (omega arith) (omega arith) (omega arith) ∙ clear i (omega arith);
+        clear = λ i h. put-else c used v low high space i (inr h) ∙ clear i (omega arith);
       }
 
   pub added-longer : Added c used v low high (longer c used v low high)
   unfolding longer flagAt lowAt highAt
   added-longer =
-      let old = take (used * width) c in
-      let t : length (take (used * width) c) ≡ used * width = length-take-le (used * width) c (omega arith) in
-      let e : length (take (used * width) c ++ inCells v low high) ≡ used * width + width =
-      length-append (take (used * width) c) (inCells v low high) ∙ ap (λ (a : ℕ). a + width) t in
-      let at : (i : ℕ) → getD (take (used * width) c ++ inCells v low high) (used * width + i) 0 ≡ getD (inCells v low high) i 0 =
-      λ i. ap (λ (a : ℕ). getD (old ++ inCells v low high) (a + i) 0) (sym t) ∙ getD-append-add old (inCells v low high) i 0 in
+      let at = behind-own c used v low high within in
       record {
-        fits = omega arith;
-        agree = λ i k. List·getD-append old (inCells v low high) 0 i (omega arith) ∙ getD-take (used * width) c i 0 k;
-        flag-is = ap (λ (a : ℕ). getD (old ++ inCells v low high) a 0) (sym (add-zero (used * width))) ∙ at 0;
+        fits = omega (arith, behind-length c used v low high within);
+        agree = behind-old c used v low high within;
+        flag-is = ap (λ (a : ℕ). getD (longer c used v low high) a 0) (sym (add-zero (used * width))) ∙ at 0;
         low-is = at 1;
         high-is = at 2;
-        clear = λ i k. List·getD-eq-default (old ++ inCells v low high) 0 (omega arith);
+        clear = λ i k. List·getD-eq-default (longer c used v low high) 0 (omega (arith, behind-length c used v low high within));
       }

@@ -7,6 +7,7 @@ use native.Mathlib.Decide.{decLt}
 use native.Mathlib.Omega.{arith}
 use lib.ListN.{length, getD, take, set, replicate, length-set, length-append, length-replicate, getD-replicate, List·getD-append}
 use lib.Seq.{ext-getD, length-take-le, getD-take, getD-append-add, getD-set-same, getD-set-other}
+use Rattle.rule.specs.Cells.{width}
 use Rattle.cells.specs.Record.{clearFrom}
 
 -- d is c with 0 from a up to i
@@ -37,23 +38,23 @@ cleared-more c a i d s h =
     go j k l (yes b) = getD-set-other d i j 0 0 (omega arith) ∙ s .zeros j k b
     go j k l (no b) = let e : i ≡ j = omega arith in ap (λ (x : ℕ). getD (set d i 0) x 0) (sym e) ∙ getD-set-same d i 0 0 h
 
-pub cleared-all : (c : List ℕ) (k i : ℕ) (d : List ℕ) → Cleared c (k * 3) i d → length d ≤ i → d ≡ clearFrom c k
+pub cleared-all : (c : List ℕ) (k i : ℕ) (d : List ℕ) → Cleared c (k * width) i d → length d ≤ i → d ≡ clearFrom c k
 unfolding clearFrom
 cleared-all c k i d s h =
     let e = s .lent in
-    let f : k * 3 ≤ length c = omega (arith, s .from-a, s .within) in
-    let t : length (take (k * 3) c) ≡ k * 3 = length-take-le (k * 3) c f in
-    ext-getD 0 d (take (k * 3) c ++ replicate (length c - k * 3) 0)
-    (simp (length-append, length-take-le (k * 3) c f, length-replicate {A = ℕ}) (omega arith))
-    (λ j g. go t j g (decLt j (k * 3)))
+    let f : k * width ≤ length c = omega (arith, s .from-a, s .within) in
+    let t : length (take (k * width) c) ≡ k * width = length-take-le (k * width) c f in
+    ext-getD 0 d (take (k * width) c ++ replicate (length c - k * width) 0)
+    (simp (length-append, length-take-le (k * width) c f, length-replicate {A = ℕ}) (omega arith))
+    (λ j g. go t j g (decLt j (k * width)))
   where
-    go : length (take (k * 3) c) ≡ k * 3 → (j : ℕ) → j < length d → Dec (j < k * 3) → getD d j 0 ≡ getD (take (k * 3) c ++ replicate (length c - k * 3) 0) j 0
+    go : length (take (k * width) c) ≡ k * width → (j : ℕ) → j < length d → Dec (j < k * width) → getD d j 0 ≡ getD (take (k * width) c ++ replicate (length c - k * width) 0) j 0
     go t j g (yes b) =
-        s .before j b ∙ sym (List·getD-append (take (k * 3) c) (replicate (length c - k * 3) 0) 0 j (omega arith) ∙ getD-take (k * 3) c j 0 b)
+        s .before j b ∙ sym (List·getD-append (take (k * width) c) (replicate (length c - k * width) 0) 0 j (omega arith) ∙ getD-take (k * width) c j 0 b)
     go t j g (no b) =
         let e = s .lent in
-        let p : length (take (k * 3) c) + (j - k * 3) ≡ j = omega arith in
+        let p : length (take (k * width) c) + (j - k * width) ≡ j = omega arith in
         s .zeros j (omega arith) (omega arith)
-        ∙ sym (ap (λ (x : ℕ). getD (take (k * 3) c ++ replicate (length c - k * 3) 0) x 0) (sym p)
-        ∙ getD-append-add (take (k * 3) c) (replicate (length c - k * 3) 0) (j - k * 3) 0
-        ∙ getD-replicate (length c - k * 3) (j - k * 3) 0 0 (omega arith))
+        ∙ sym (ap (λ (x : ℕ). getD (take (k * width) c ++ replicate (length c - k * width) 0) x 0) (sym p)
+        ∙ getD-append-add (take (k * width) c) (replicate (length c - k * width) 0) (j - k * width) 0
+        ∙ getD-replicate (length c - k * width) (j - k * width) 0 0 (omega arith))

@@ -1,42 +1,84 @@
 -- The laws of putting a record: its own fields are what was put, and every other record is as it was.
 -- Assumes nothing.
-use mathlib.Core.Path.{_≡_, _∙_}
-use mathlib.Core.Logic.{_≢_}
-use mathlib.Core.List.{List}
-use Prim.Native.Nat.{ℕ, _+_, _*_, _<_}
+use mathlib.Core.Path.{_≡_, sym, ap, _∙_}
+use mathlib.Core.Logic.{_⊎_, inl, inr}
+use mathlib.Core.List.{List, _++_}
+use Prim.Native.Nat.{ℕ, suc, _+_, _-_, _*_, _≤_, _<_}
+use native.Mathlib.Nat.{add-zero}
 use native.Mathlib.Omega.{arith}
-use lib.ListN.{length, getD, set, length-set}
-use lib.Seq.{getD-set-same, getD-set-other}
-use Rattle.rule.specs.Cells.{width, room, flagAt, lowAt, highAt}
+use lib.ListN.{length, getD, take, drop, set, length-append, length-drop, List·getD-append}
+use lib.Seq.{length-take-le, getD-take, getD-drop, getD-append-add, sets-eq}
+use Rattle.rule.specs.Cells.{width, room, flagAt, lowAt, highAt, inCells}
 use Rattle.cells.specs.Record.{putRecord}
 
-module _ (c : List ℕ) (k flag low high : ℕ) where
+-- ---- the first k records, and this one behind them
+
+module _ (c : List ℕ) (k flag low high : ℕ) (h : k ≤ room c) where
+  first : length (take (k * width) c) ≡ k * width
+  first = length-take-le (k * width) c (omega arith)
+
+  pub behind-length : length (take (k * width) c ++ inCells flag low high) ≡ (k + 1) * width
+  behind-length = length-append (take (k * width) c) (inCells flag low high) ∙ omega (arith, first)
+
+  -- the older records' cells
+  pub behind-old : (i : ℕ) → i < k * width → getD (take (k * width) c ++ inCells flag low high) i 0 ≡ getD c i 0
+  behind-old i g = List·getD-append (take (k * width) c) (inCells flag low high) 0 i (omega (arith, first)) ∙ getD-take (k * width) c i 0 g
+
+  -- the record's own
+  pub behind-own : (i : ℕ) → getD (take (k * width) c ++ inCells flag low high) (k * width + i) 0 ≡ getD (inCells flag low high) i 0
+  behind-own i =
+      ap (λ (a : ℕ). getD (take (k * width) c ++ inCells flag low high) (a + i) 0) (sym first)
+      ∙ getD-append-add (take (k * width) c) (inCells flag low high) i 0
+
+-- ---- a record put at place k
+
+module _ (c : List ℕ) (k flag low high : ℕ) (h : k < room c) where
+  abbrev front : List ℕ
+  front = take (k * width) c ++ inCells flag low high
+
+  size : length front ≡ (k + 1) * width
+  size = behind-length c k flag low high (omega arith)
+
   pub put-length : length (putRecord c k flag low high) ≡ length c
   unfolding putRecord
-  put-length = simp length-set
+  put-length = length-append front (drop ((k + 1) * width) c) ∙ omega (arith, size, length-drop ((k + 1) * width) c)
+
+  in-front : (i : ℕ) → i < (k + 1) * width → getD (putRecord c k flag low high) i 0 ≡ getD front i 0
+  unfolding putRecord
+  in-front i g = List·getD-append front (drop ((k + 1) * width) c) 0 i (omega (arith, size))
 
   -- a cell outside of the record is as it was
-  pub put-else : (i : ℕ) → i ≢ k * width → i ≢ k * width + 1 → i ≢ k * width + 2 → getD (putRecord c k flag low high) i 0 ≡ getD c i 0
+  pub put-else : (i : ℕ) → (i < k * width) ⊎ ((k + 1) * width ≤ i) → getD (putRecord c k flag low high) i 0 ≡ getD c i 0
   unfolding putRecord
-  put-else i a b d =
-      getD-set-other (set (set c (k * width) flag) (k * width + 1) low) (k * width + 2) i high 0 d
-      ∙ getD-set-other (set c (k * width) flag) (k * width + 1) i low 0 b
-      ∙ getD-set-other c (k * width) i flag 0 a
+  put-else i (inl g) = in-front i (omega arith) ∙ behind-old c k flag low high (omega arith) i g
+  put-else i (inr g) =
+      let e : length front + (i - (k + 1) * width) ≡ i = omega (arith, size) in
+      let a : (k + 1) * width + (i - (k + 1) * width) ≡ i = omega arith in
+      ap (λ (j : ℕ). getD (putRecord c k flag low high) j 0) (sym e)
+      ∙ getD-append-add front (drop ((k + 1) * width) c) (i - (k + 1) * width) 0
+      ∙ getD-drop ((k + 1) * width) c (i - (k + 1) * width) 0
+      ∙ ap (λ (j : ℕ). getD c j 0) a
 
-  module _ (h : k < room c) where
-    pub put-flag : flagAt (putRecord c k flag low high) k ≡ flag
-    unfolding putRecord flagAt
-    put-flag =
-        getD-set-other (set (set c (k * width) flag) (k * width + 1) low) (k * width + 2) (k * width) high 0 (omega arith)
-        ∙ getD-set-other (set c (k * width) flag) (k * width + 1) (k * width) low 0 (omega arith)
-        ∙ getD-set-same c (k * width) flag 0 (omega arith)
+  put-own : (i : ℕ) → i < width → getD (putRecord c k flag low high) (k * width + i) 0 ≡ getD (inCells flag low high) i 0
+  put-own i g = in-front (k * width + i) (omega arith) ∙ behind-own c k flag low high (omega arith) i
 
-    pub put-low : lowAt (putRecord c k flag low high) k ≡ low
-    unfolding putRecord lowAt
-    put-low =
-        getD-set-other (set (set c (k * width) flag) (k * width + 1) low) (k * width + 2) (k * width + 1) high 0 (omega arith)
-        ∙ getD-set-same (set c (k * width) flag) (k * width + 1) low 0 (simp length-set (omega arith))
+  pub put-flag : flagAt (putRecord c k flag low high) k ≡ flag
+  unfolding flagAt
+  put-flag = ap (λ (a : ℕ). getD (putRecord c k flag low high) a 0) (sym (add-zero (k * width))) ∙ put-own 0 (omega arith)
 
-    pub put-high : highAt (putRecord c k flag low high) k ≡ high
-    unfolding putRecord highAt
-    put-high = getD-set-same (set (set c (k * width) flag) (k * width + 1) low) (k * width + 2) high 0 (simp length-set (omega arith))
+  pub put-low : lowAt (putRecord c k flag low high) k ≡ low
+  unfolding lowAt
+  put-low = put-own 1 (omega arith)
+
+  pub put-high : highAt (putRecord c k flag low high) k ≡ high
+  unfolding highAt
+  put-high = put-own 2 (omega arith)
+
+  -- stored cell by cell
+  pub put-stores : set (set (set c (k * width) flag) (k * width + 1) low) (k * width + 2) high ≡ putRecord c k flag low high
+  unfolding putRecord
+  put-stores =
+      let second : k * width + 1 ≡ suc (k * width) = omega arith in
+      let third : k * width + 2 ≡ suc (suc (k * width)) = omega arith in
+      let past : (k + 1) * width ≡ k * width + width = omega arith in
+      rw (second, third, past) (sets-eq (inCells flag low high) c (k * width) (omega arith))

@@ -2,12 +2,12 @@
 -- Assumes nothing.
 use mathlib.Core.List.{List, _++_}
 use Prim.Native.Nat.{ℕ, _+_, _-_, _*_}
-use lib.ListN.{length, take, set, replicate}
-use Rattle.rule.specs.Cells.{width}
+use lib.ListN.{length, take, drop, replicate}
+use Rattle.rule.specs.Cells.{width, inCells}
 
--- the cells with a record at place k
+-- the cells with a record at place k, which they have room for
 unfoldable pub putRecord : List ℕ → ℕ → ℕ → ℕ → ℕ → List ℕ
-putRecord c k flag low high = set (set (set c (k * width) flag) (k * width + 1) low) (k * width + 2) high
+putRecord c k flag low high = take (k * width) c ++ inCells flag low high ++ drop ((k + 1) * width) c
 
 -- the cells with 0 from record k on
 unfoldable pub clearFrom : List ℕ → ℕ → List ℕ

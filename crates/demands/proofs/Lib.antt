@@ -5,7 +5,6 @@ pub mod Exists
 pub mod Needs
 pub mod Suffices
 pub mod Same
-pub mod Longer
 pub mod Reader
 pub mod NoRoom
 pub mod Demand2

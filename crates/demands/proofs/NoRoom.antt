@@ -25,7 +25,7 @@ use Rattle.theory.proofs.Bits.{bit-lt}
 use Rattle.theory.proofs.Cofactor.{length-cofactor, row-lt, cofactor-rows}
 use Rattle.theory.proofs.Sound.{sound-view}
 use Rattle.theory.proofs.Walks.{smaller, length-tabled, length-table, fit-table}
-use Rattle.theory.proofs.Orders.{fit-order-is, packed-is}
+use Rattle.theory.proofs.Orders.{fit-order-is, packed-fewest}
 use Rattle.demands.proofs.Stands.{Passed}
 use Rattle.demands.proofs.Counts.{counts}
 use Rattle.demands.proofs.Needs.{needs}
@@ -72,7 +72,7 @@ no-room-packed n used root t order c w d x e r b q l o y =
     omega (
       arith,
       counts n order t f e used root y,
-      packed-is n t .fewest (flags n order) (fit-order-is n order o),
+      packed-fewest n t (flags n order) (fit-order-is n order o),
       ltb-true (room c) (size (packed n t) t) g,
     )
 

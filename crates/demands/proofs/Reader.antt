@@ -1,27 +1,24 @@
 -- The reader's outcome, field by field: what an accepted file leaves in the cells is a diagram, and stands for its table.
 -- Assumes nothing.
-use mathlib.Core.Path.{_≡_, refl, ap, _∙_}
-use mathlib.Core.Bool.{Bool, true, false, not, _&&_, _||_}
+use mathlib.Core.Path.{_≡_, refl}
+use mathlib.Core.Bool.{true}
 use mathlib.Core.List.{List, _∷_, _++_}
-use Prim.Native.Nat.{ℕ, zero, suc, _+_, _*_, _≤_, _<_}
+use Prim.Native.Nat.{ℕ, zero, suc, _≤_, _<_}
 use native.Mathlib.Omega.{arith}
 use borrow.Author.Tests.{ltb-false, not-false}
-use lib.Dec.{eqb, leb, ltb}
-use lib.ListN.{length, getD, take, drop, replicate, length-append, length-replicate}
-use lib.Seq.{take-take, length-take-le}
-use Rattle.rule.specs.Bits.{bit, from}
-use Rattle.rule.specs.Tests.{each, keep}
-use Rattle.rule.specs.Order.{times, eachOnce, restZero, fitOrder, rising}
-use Rattle.rule.specs.Cells.{width, room, fitCells}
+use lib.ListN.{length, getD, replicate, length-append, length-replicate}
+use lib.Seq.{length-take-le}
+use Rattle.rule.specs.Bits.{bit}
+use Rattle.rule.specs.Order.{fitOrder}
+use Rattle.rule.specs.Cells.{fitCells}
 use Rattle.rule.specs.Diagram.{tableOf, diagram}
+use Rattle.rule.specs.Refusals.{Row, refusal}
 use Rattle.rule.specs.Reply.{Reply}
-use Rattle.rule.specs.Files.{Reading, Outcome, stop, go, andThen, unless, fieldIf, short, printable, twoAt, recordCells, readFlags, readOrder, readLabel, readRecords, rootRead, readEnd, nothingRead, readFile, reading, readNumber, readValues, readCells, Reads}
+use Rattle.rule.specs.Files.{Reading, count, Outcome, stop, go, andThen, readOr, unless, fieldIf, readMap, readFlags, readOrder, readLabel, readRecords, rootRead, recordCells, laidIn, readEnd, reading, readNumber, readValues, readCells, Reads}
 use Rattle.rule.specs.Demands.{StandsFor, Gives}
-use Rattle.theory.proofs.Tests.{each-below}
-use Rattle.theory.proofs.Orders.{fit-order-is, in-places-fit}
-use Rattle.theory.proofs.Reach.{diagram-view, view-diagram}
-use Rattle.demands.proofs.Stands.{accepted-reply, stands}
-use Rattle.demands.proofs.Longer.{zeros-behind, diagram-longer}
+use Rattle.theory.proofs.Refused.{numbered}
+use Rattle.theory.proofs.Orders.{rising-fit}
+use Rattle.demands.proofs.Stands.{accepted-reply, Passed, passed, stands}
 
 -- ---- what holds of a file that is read on
 
@@ -30,114 +27,80 @@ abbrev Right : (Reading → Type 0) → Outcome → Type 0
 Right P (stop k) = 0 < k
 Right P (go x) = P x
 
-unless-right : (P : Reading → Type 0) (b : Bool) (k : ℕ) (rest : Outcome) → (b ≡ false → Right P rest) → Right P (unless b (suc k) rest)
-unless-right P true k rest f = omega arith
-unless-right P false k rest f = f refl
+-- no row applies, and P holds then
+module _ (P : Reading → Type 0) (rows : List Row) (h : numbered rows ≡ true) (x : Reading) where
+  unless-right : (Passed rows → P x) → Right P (unless rows x)
+  unfolding unless
+  unless-right f = by (refusal rows) refl
+    where
+      by : (k : ℕ) → refusal rows ≡ k → Right P (readOr k x)
+      by zero e = f (passed rows h e)
+      by (suc k) e = omega arith
 
--- a field, present or absent, and what follows it
-then-right : (P Q : Reading → Type 0) (b : ℕ) (field : Reading → Outcome) (x : Reading) (next : Reading → Outcome) → P x → Right P (field x)
+-- what follows is right too
+then-right : (P Q : Reading → Type 0) (o : Outcome) (next : Reading → Outcome) → Right P o → ((x : Reading) → P x → Right Q (next x)) → Right Q (andThen o next)
+then-right P Q (stop k) next f g = f
+then-right P Q (go x) next f g = g x f
+
+-- the same behind a field, present or absent
+field-right : (P Q : Reading → Type 0) (b : ℕ) (field : Reading → Outcome) (x : Reading) (next : Reading → Outcome) → P x → Right P (field x)
     → ((x : Reading) → P x → Right Q (next x)) → Right Q (andThen (fieldIf b field x) next)
-then-right P Q zero field x next h f g = g x h
-then-right P Q (suc b) field x next h f g = after (field x) f
-  where
-    after : (o : Outcome) → Right P o → Right Q (andThen o next)
-    after (stop k) f = f
-    after (go y) f = g y f
+field-right P Q zero field x next h f g = g x h
+field-right P Q (suc b) field x next h f g = then-right P Q (field x) next f g
 
 -- ---- the fields
 
-rising-fit : (n : ℕ) → n ≤ 10 → fitOrder n (rising n) ≡ true
-unfolding fitOrder eachOnce restZero times keep each from
-rising-fit n h = each-below (λ n. fitOrder n (rising n)) 11 refl n (omega arith)
-
-length-records : (k : ℕ) (bytes : List ℕ) → length (recordCells k bytes) ≡ k * width
-unfolding recordCells
-length-records zero bytes = refl
-length-records (suc k) bytes = omega (arith, length-records k (drop 5 bytes))
-
--- up to ten flags in a fit order, and no more records than the lent cells have room for
+-- up to ten flags in a fit order, and cells of a fit length
 record Fields (c : List ℕ) (x : Reading) : Type 0 where
   lent : fitCells c ≡ true
   few : x .n ≤ 10
   order-fits : fitOrder (x .n) (x .places) ≡ true
-  count-fits : x .count ≤ room c
-  cells-are : length (x .cells) ≡ x .count * width
 
--- the records are a diagram's
-abbrev Whole : List ℕ → ℕ → Reading → Type 0
-Whole c map x = Fields c x × (diagram (x .n) (x .places) (x .cells) (x .count) (rootRead map (x .count)) ≡ true)
+-- the records, laid in the cells, are a diagram
+abbrev Whole : List ℕ → List ℕ → Reading → Type 0
+Whole c file x = Fields c x × (diagram (x .n) (x .places) (laidIn c (x .records)) (count x) (rootRead (getD file 0 0) (count x)) ≡ true)
 
-module _ (c : List ℕ) where
-  flags-right : (x : Reading) → Fields c x → Right (Fields c) (readFlags x)
+module _ (c file : List ℕ) where
+  map-right : Right (Fields c) (readMap c file)
+  unfolding readMap
+  map-right =
+      unless-right (Fields c) _ refl _ (λ p.
+      record { lent = not-false _ (p .0); few = omega arith; order-fits = rising-fit 0 (omega arith) })
+
+  flags-right : (x : Reading) → Fields c x → Right (Fields c) (readFlags file x)
   unfolding readFlags
   flags-right x h =
-      unless-right (Fields c) (short x 1) 10 _ (λ _.
-      unless-right (Fields c) (ltb 10 (getD (x .left) 0 0)) 0 _ (λ e.
-      let f = ltb-false 10 (getD (x .left) 0 0) e in
-      record { lent = h .lent; few = f; order-fits = rising-fit (getD (x .left) 0 0) f; count-fits = omega arith; cells-are = refl }))
+      unless-right (Fields c) _ refl _ (λ p.
+      let few = ltb-false 10 (getD file (x .at) 0) (p .1 .0) in
+      record { lent = h .lent; few = few; order-fits = rising-fit (getD file (x .at) 0) few })
 
-  order-right : (x : Reading) → Fields c x → Right (Fields c) (readOrder x)
+  order-right : (x : Reading) → Fields c x → Right (Fields c) (readOrder file x)
   unfolding readOrder
-  order-right x h =
-      unless-right (Fields c) (short x (x .n)) 10 _ (λ _.
-      unless-right (Fields c) (not (fitOrder (x .n) (take (x .n) (x .left)))) 3 _ (λ e.
-      record {
-        lent = h .lent;
-        few = h .few;
-        order-fits = in-places-fit (x .n) (take (x .n) (x .left)) (h .few)
-            (rw (take-take (x .n) (x .n) (x .left) (omega arith)) at (fit-order-is (x .n) (take (x .n) (x .left)) (not-false _ e)));
-        count-fits = omega arith;
-        cells-are = refl;
-      }))
+  order-right x h = unless-right (Fields c) _ refl _ (λ p. record { lent = h .lent; few = h .few; order-fits = not-false _ (p .1 .0) })
 
-  label-right : (x : Reading) → Fields c x → Right (Fields c) (readLabel x)
+  label-right : (x : Reading) → Fields c x → Right (Fields c) (readLabel file x)
   unfolding readLabel
-  label-right x h =
-      let size = getD (x .left) 0 0 in
-      unless-right (Fields c) (short x 1) 10 _ (λ _.
-      unless-right (Fields c) (eqb size 0) 12 _ (λ _.
-      unless-right (Fields c) (short x (1 + size)) 10 _ (λ _.
-      unless-right (Fields c) (not (each printable (take size (drop 1 (x .left))))) 12 _ (λ _.
-      record { lent = h .lent; few = h .few; order-fits = h .order-fits; count-fits = omega arith; cells-are = refl }))))
+  label-right x h = unless-right (Fields c) _ refl _ (λ p. record { lent = h .lent; few = h .few; order-fits = h .order-fits })
 
-  records-right : (x : Reading) → Fields c x → Right (Fields c) (readRecords (room c) x)
+  records-right : (x : Reading) → Fields c x → Right (Fields c) (readRecords c file x)
   unfolding readRecords
-  records-right x h =
-      let count = twoAt (x .left) 0 in
-      unless-right (Fields c) (short x 2) 10 _ (λ _.
-      unless-right (Fields c) (eqb count 0) 5 _ (λ _.
-      unless-right (Fields c) (ltb (room c) count) 9 _ (λ e.
-      unless-right (Fields c) (short x (2 + count * 5)) 10 _ (λ _.
-      record {
-        lent = h .lent;
-        few = h .few;
-        order-fits = h .order-fits;
-        count-fits = ltb-false (room c) count e;
-        cells-are = length-records count (drop 2 (x .left));
-      }))))
+  records-right x h = unless-right (Fields c) _ refl _ (λ p. record { lent = h .lent; few = h .few; order-fits = h .order-fits })
 
-  end-right : (map : ℕ) (x : Reading) → Fields c x → Right (Whole c map) (readEnd map x)
+  end-right : (x : Reading) → Fields c x → Right (Whole c file) (readEnd c file x)
   unfolding readEnd
-  end-right map x h =
-      unless-right (Whole c map) (ltb 0 (length (x .left))) 10 _ (λ _.
-      unless-right (Whole c map) (not (diagram (x .n) (x .places) (x .cells) (x .count) (rootRead map (x .count)))) 5 _ (λ e. (h, not-false _ e)))
+  end-right x h = unless-right (Whole c file) _ refl _ (λ p. (h, not-false _ (p .1 .0)))
 
-  file-right : fitCells c ≡ true → (file : List ℕ) → Right (Whole c (getD file 0 0)) (readFile (room c) file)
-  unfolding readFile
-  file-right f file =
-      let map = getD file 0 0 in
-      let none : Fields c (nothingRead (drop 1 file)) =
-      record { lent = f; few = omega arith; order-fits = rising-fit 0 (omega arith); count-fits = omega arith; cells-are = refl } in
-      unless-right (Whole c map) (eqb (length file) 0) 10 _ (λ _.
-      unless-right (Whole c map) (leb 32 map || (eqb (bit map 3) 1 && eqb (bit map 4) 1)) 11 _ (λ _.
-      then-right (Fields c) (Whole c map) (bit map 0) readFlags (nothingRead (drop 1 file)) _ none (flags-right (nothingRead (drop 1 file)) none) (λ x h.
-      then-right (Fields c) (Whole c map) (bit map 1) readOrder x _ h (order-right x h) (λ x h.
-      then-right (Fields c) (Whole c map) (bit map 2) readLabel x _ h (label-right x h) (λ x h.
-      then-right (Fields c) (Whole c map) (bit map 3) (readRecords (room c)) x _ h (records-right x h) (λ x h. end-right map x h))))))
-
-  reading-right : (file : List ℕ) → Right (Whole c (getD file 0 0)) (reading c file)
+  reading-right : Right (Whole c file) (reading c file)
   unfolding reading
-  reading-right file = unless-right (Whole c (getD file 0 0)) (not (fitCells c)) 4 _ (λ e. file-right (not-false _ e) file)
+  reading-right =
+      let map = getD file 0 0 in
+      let F = Fields c in
+      let W = Whole c file in
+      then-right F W (readMap c file) _ map-right (λ x h.
+      field-right F W (bit map 0) (readFlags file) x _ h (flags-right x h) (λ x h.
+      field-right F W (bit map 1) (readOrder file) x _ h (order-right x h) (λ x h.
+      field-right F W (bit map 2) (readLabel file) x _ h (label-right x h) (λ x h.
+      field-right F W (bit map 3) (readRecords c file) x _ h (records-right x h) (λ x h. end-right x h)))))
 
 -- ---- an accepted file
 
@@ -147,22 +110,15 @@ unfolding fitCells
 read n nodes root order file c d r b g =
     outcome (reading c file) (reading-right c file) (accepted-reply (readNumber (reading c file)) (b .answer) g) (b .cells)
   where
-    outcome : (o : Outcome) → Right (Whole c (getD file 0 0)) o → (readNumber o ≡ 0) × (readValues file o ≡ n ∷ nodes ∷ root ∷ order) → d ≡ readCells c o
+    outcome : (o : Outcome) → Right (Whole c file) o → (readNumber o ≡ 0) × (readValues file o ≡ n ∷ nodes ∷ root ∷ order) → d ≡ readCells c o
         → StandsFor n order (tableOf n d root) d nodes root
     outcome (stop k) h (z, v) e = absurd (omega arith)
     outcome (go x) (f, q) (z, v) e =
-        let small : length (x .cells) ≤ length c = omega (arith, f .cells-are, f .count-fits) in
-        let lent : length d ≡ length c =
-        ap length e ∙ length-take-le (length c) (x .cells ++ replicate (length c) 0) (simp (length-append, length-replicate) (omega arith)) in
-        let same : (i : ℕ) → getD d i 0 ≡ getD (x .cells) i 0 =
-        λ i. ap (λ (l : List ℕ). getD l i 0) e ∙ zeros-behind (x .cells) (length c) (length c) i small in
-        let map = getD file 0 0 in
-        let top = rootRead map (x .count) in
+        let lent : length (laidIn c (x .records)) ≡ length c =
+        length-take-le (length c) (recordCells (x .records) ++ replicate (length c) 0) (simp (length-append, length-replicate) (omega arith)) in
         let n-is : n ≡ x .n = cc in
-        let nodes-is : nodes ≡ x .count = cc in
-        let root-is : root ≡ rootRead map (x .count) = cc in
+        let nodes-is : nodes ≡ count x = cc in
+        let root-is : root ≡ rootRead (getD file 0 0) (count x) = cc in
         let order-is : order ≡ x .places = cc in
-        rw (n-is, nodes-is, root-is, order-is)
-        (stands (x .n) (x .places) d (x .count) top (f .few) (f .order-fits) (rw lent (f .lent))
-        (view-diagram (x .n) (x .places) d (x .count) top
-        (diagram-longer (x .cells) d same (omega arith) (diagram-view (x .n) (x .places) (x .cells) (x .count) top q))))
+        rw (n-is, nodes-is, root-is, order-is, e)
+        (stands (x .n) (x .places) (laidIn c (x .records)) (count x) _ (f .few) (f .order-fits) (rw lent (f .lent)) q)

@@ -13,7 +13,8 @@ use Rattle.rule.specs.Order.{rising, orders, packed}
 use Rattle.rule.specs.Results.{rootBy}
 use Rattle.rule.specs.Cells.{width}
 use Rattle.rule.specs.Files.{reading, readNumber, readValues}
-use Rattle.rule.specs.Listing.{text, flagsOf, rowsOf, askingPacked, listing}
+use Rattle.rule.specs.Text.{text}
+use Rattle.rule.specs.Listing.{flagsOf, rowsOf, askingPacked, listing}
 
 -- the digits of a text, and the flag count and packed order of the table that they are
 abbrev pub digits : String → List ℕ

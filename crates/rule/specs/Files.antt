@@ -1,20 +1,21 @@
 -- Rule files, read and written (document 01, "Rule files" and the reader's sequence of "Refused, by where it is found"). A file is the list of its bytes.
 -- Assumes nothing.
 use mathlib.Core.Path.{_≡_}
-use mathlib.Core.Bool.{Bool, true, false, cond, not, _&&_, _||_}
-use mathlib.Core.List.{List, [], _∷_, _++_}
+use mathlib.Core.Bool.{Bool, cond, not, _&&_, _||_}
+use mathlib.Core.List.{List, [], _∷_, _++_, map}
 use Prim.Native.Nat.{ℕ, zero, suc, _+_, _*_, _/_, _%_}
 use lib.Dec.{eqb, leb, ltb}
 use lib.ListN.{length, getD, take, drop, replicate}
-use Rattle.rule.specs.Bits.{bit}
+use denote.Ref.{RefT, ptr, now}
+use Rattle.rule.specs.Bits.{bit, below}
 use Rattle.rule.specs.Tests.{each}
-use Rattle.rule.specs.Order.{flags, fitOrder, inPlaces, rising}
-use Rattle.rule.specs.Cells.{room, flagAt, lowAt, highAt, inCells, fitCells}
+use Rattle.rule.specs.Order.{flags, inPlaces, rising}
+use Rattle.rule.specs.Cells.{room, flagAt, lowAt, highAt, inCells}
 use Rattle.rule.specs.Diagram.{diagram}
-use Rattle.rule.specs.Refusals.{Row, refusal, flagCount, orderPlaces, cells, diagramRecords, node}
+use Rattle.rule.specs.Refusals.{Row, refusal, flagCount, orderPlaces, cells, diagramRecords, node, result}
 use Rattle.rule.specs.Reply.{Reply, reply, leaves}
 
--- ---- numbers in bytes
+-- ---- what a file is made of
 
 -- "two bytes, low byte first"
 abbrev pub two : ℕ → List ℕ
@@ -23,20 +24,79 @@ two x = x % 256 ∷ x / 256 ∷ []
 abbrev pub twoAt : List ℕ → ℕ → ℕ
 twoAt bytes i = getD bytes i 0 + 256 * getD bytes (i + 1) 0
 
+-- a record as a file has it
+pub record FileRecord : Type 0 where
+  pub flag : ℕ
+  pub low : ℕ
+  pub high : ℕ
+
+-- "five bytes each: flag, low (two), high (two), low byte first": a record's bytes, and record k of those that start at a place of the file
+abbrev pub inBytes : FileRecord → List ℕ
+inBytes r = r .flag ∷ two (r .low) ++ two (r .high)
+
+abbrev pub recordAt : List ℕ → ℕ → ℕ → FileRecord
+recordAt file start k =
+    let at = start + k * 5 in
+    record { flag = getD file at 0; low = twoAt file (at + 1); high = twoAt file (at + 3) }
+
+-- a part of a file: so many bytes from its start on
+pub record Part : Type 0 where
+  pub start : ℕ
+  pub size : ℕ
+
+abbrev pub bytesOf : Part → List ℕ → List ℕ
+bytesOf p file = take (p .size) (drop (p .start) file)
+
+-- ---- the rows of the refusal table that only files meet
+
+-- "a field runs past the end": the field ends at this place
+abbrev pub pastEnd : List ℕ → ℕ → Row
+pastEnd file end = (ltb (length file) end, 11)
+
+-- "bytes follow the last": the last field ends at this place
+abbrev pub leftOver : List ℕ → ℕ → Row
+leftOver file end = (ltb end (length file), 11)
+
+-- "bits 5 to 7, or bits 3 and 4 together"
+abbrev pub fileMap : ℕ → Row
+fileMap map = (leb 32 map || (eqb (bit map 3) 1 && eqb (bit map 4) 1), 12)
+
+-- the longest label, for reader and writer: "a length byte 1 to 255", "for the writer a label above 255 bytes"
+abbrev pub longestLabel : ℕ
+longestLabel = 255
+
+-- "length 0"
+abbrev pub emptyLabel : ℕ → Row
+emptyLabel size = (eqb size 0, 13)
+
+-- "a label above 255 bytes"; the reader tests it of the length byte, which is never above 255
+abbrev pub longLabel : ℕ → Row
+longLabel size = (ltb longestLabel size, 13)
+
 -- "bytes 20 to 7E", hexadecimal
 abbrev pub printable : ℕ → Bool
 printable b = leb 0x20 b && leb b 0x7E
 
+-- "a byte outside 20 to 7E"
+abbrev pub labelBytes : List ℕ → Row
+labelBytes l = (not (each printable l), 13)
+
+-- "a file's count of 0"
+abbrev pub countOf0 : ℕ → Row
+countOf0 count = (eqb count 0, 6)
+
 -- ---- the reader
 
--- a file read so far: what it says, and the bytes that are left
+-- a file read so far: what it says, and the place up to which it is read
 pub record Reading : Type 0 where
   pub n : ℕ
   pub places : List ℕ
-  pub label : List ℕ
-  pub count : ℕ
-  pub cells : List ℕ
-  pub left : List ℕ
+  pub label : Part
+  pub records : List FileRecord
+  pub at : ℕ
+
+abbrev pub count : Reading → ℕ
+count x = length (x .records)
 
 -- refused under a number, or read on
 pub data Outcome : Type 0 where
@@ -48,96 +108,91 @@ abbrev pub andThen : Outcome → (Reading → Outcome) → Outcome
 andThen (stop k) next = stop k
 andThen (go x) next = next x
 
--- the number where the test applies, else read on
-abbrev pub unless : Bool → ℕ → Outcome → Outcome
-unless true k rest = stop k
-unless false k rest = rest
+abbrev pub readOr : ℕ → Reading → Outcome
+readOr zero x = go x
+readOr (suc k) x = stop (suc k)
+
+-- refused by the first of these rows that applies; where none does, this is read
+unfoldable pub unless : List Row → Reading → Outcome
+unless rows x = readOr (refusal rows) x
 
 -- "fields follow in bit order, only where the bit stands"
 abbrev pub fieldIf : ℕ → (Reading → Outcome) → Reading → Outcome
 fieldIf zero field x = go x
 fieldIf (suc b) field x = field x
 
--- "a field runs past the end": fewer bytes are left than the field has
-abbrev pub short : Reading → ℕ → Bool
-short x size = ltb (length (x .left)) size
+-- what an absent field means: "Bit 0: .. Absent: 0. Bit 1: .. Absent: rising. Bit 2: .. Absent: no label.", and no records
+abbrev pub noPart : Part
+noPart = record { start = 0; size = 0 }
 
--- "Bit 0: n, one byte."
-unfoldable pub readFlags : Reading → Outcome
-readFlags x =
-    unless (short x 1) 11
-    (unless (ltb 10 (getD (x .left) 0 0)) 1
-    (go (record { n = getD (x .left) 0 0; places = rising (getD (x .left) 0 0); label = []; count = 0; cells = []; left = drop 1 (x .left) })))
+abbrev pub nothingRead : ℕ → Reading
+nothingRead at = record { n = 0; places = rising 0; label = noPart; records = []; at = at }
 
--- "Bit 1: the order, n bytes. Absent: rising."
-unfoldable pub readOrder : Reading → Outcome
-readOrder x =
-    unless (short x (x .n)) 11
-    (unless (not (fitOrder (x .n) (take (x .n) (x .left)))) 4
-    (go (record { n = x .n; places = inPlaces (take (x .n) (x .left)); label = []; count = 0; cells = []; left = drop (x .n) (x .left) })))
+-- "The first byte is a bit map". "The reader tests 5, then the file from left to right"
+unfoldable pub readMap : List ℕ → List ℕ → Outcome
+readMap c file = unless (cells c ∷ pastEnd file 1 ∷ fileMap (getD file 0 0) ∷ []) (nothingRead 1)
 
--- "Bit 2: label, a length byte 1 to 255, then bytes 20 to 7E." The length byte is a field of its own.
-unfoldable pub readLabel : Reading → Outcome
-readLabel x =
-    let size = getD (x .left) 0 0 in
-    let label = take size (drop 1 (x .left)) in
-    unless (short x 1) 11
-    (unless (eqb size 0) 13
-    (unless (short x (1 + size)) 11
-    (unless (not (each printable label)) 13
-    (go (record { n = x .n; places = x .places; label = label; count = 0; cells = []; left = drop (1 + size) (x .left) })))))
+-- "Bit 0: n, one byte." Where bit 1 is absent the order is the rising one of these flags.
+unfoldable pub readFlags : List ℕ → Reading → Outcome
+readFlags file x =
+    let n = getD file (x .at) 0 in
+    unless (pastEnd file (x .at + 1) ∷ flagCount n ∷ [])
+    (record { n = n; places = rising n; label = x .label; records = x .records; at = x .at + 1 })
 
--- the cells of the first k records of these bytes: "five bytes each: flag, low (two), high (two), low byte first"
-unfoldable pub recordCells : ℕ → List ℕ → List ℕ
-recordCells zero bytes = []
-recordCells (suc k) bytes = inCells (getD bytes 0 0) (twoAt bytes 1) (twoAt bytes 3) ++ recordCells k (drop 5 bytes)
+-- "Bit 1: the order, n bytes."
+unfoldable pub readOrder : List ℕ → Reading → Outcome
+readOrder file x =
+    let order = inPlaces (take (x .n) (drop (x .at) file)) in
+    unless (pastEnd file (x .at + x .n) ∷ orderPlaces (x .n) order ∷ [])
+    (record { n = x .n; places = order; label = x .label; records = x .records; at = x .at + x .n })
 
--- "Bit 3: record count, two bytes, low byte first, at least 1; then five bytes each". The count is a field of its own: "6 for 0, then 10, the records
--- needed being that count", of those that the lent cells have room for.
-unfoldable pub readRecords : ℕ → Reading → Outcome
-readRecords have x =
-    let count = twoAt (x .left) 0 in
-    unless (short x 2) 11
-    (unless (eqb count 0) 6
-    (unless (ltb have count) 10
-    (unless (short x (2 + count * 5)) 11
-    (go (record {
-      n = x .n;
-      places = x .places;
-      label = x .label;
-      count = count;
-      cells = recordCells count (drop 2 (x .left));
-      left = drop (2 + count * 5) (x .left);
-    })))))
+-- "Bit 2: label, a length byte 1 to 255, then bytes 20 to 7E." "The label's length byte and the record count are fields of their own"
+unfoldable pub readLabel : List ℕ → Reading → Outcome
+readLabel file x =
+    let label : Part = record { start = x .at + 1; size = getD file (x .at) 0 } in
+    let end = label .start + label .size in
+    unless (pastEnd file (label .start) ∷ emptyLabel (label .size) ∷ longLabel (label .size) ∷ pastEnd file end ∷ labelBytes (bytesOf label file) ∷ [])
+    (record { n = x .n; places = x .places; label = label; records = x .records; at = end })
+
+-- "Bit 3: record count, two bytes, low byte first, at least 1; then five bytes each". "a count gives 6 for 0, then 10, the records needed being that count":
+-- all lent cells are free
+unfoldable pub readRecords : List ℕ → List ℕ → Reading → Outcome
+readRecords c file x =
+    let count = twoAt file (x .at) in
+    let start = x .at + 2 in
+    let end = start + count * 5 in
+    unless (pastEnd file start ∷ countOf0 count ∷ result count (room c) ∷ pastEnd file end ∷ [])
+    (record { n = x .n; places = x .places; label = x .label; records = map (recordAt file start) (below count); at = end })
 
 -- "Bit 4: no bytes; root is node 1. Without bits 3 and 4 the root is node 0." With records the root is the last of them.
 abbrev pub rootRead : ℕ → ℕ → ℕ
 rootRead map zero = bit map 4
 rootRead map (suc k) = suc k + 1
 
--- "then 11 for bytes left over, then 6 for the records"
-unfoldable pub readEnd : ℕ → Reading → Outcome
-readEnd map x =
-    unless (ltb 0 (length (x .left))) 11
-    (unless (not (diagram (x .n) (x .places) (x .cells) (x .count) (rootRead map (x .count)))) 6 (go x))
+-- the records in cells, one behind the other
+unfoldable pub recordCells : List FileRecord → List ℕ
+recordCells [] = []
+recordCells (r ∷ rs) = inCells (r .flag) (r .low) (r .high) ++ recordCells rs
 
--- what an absent field means: "Bit 0: .. Absent: 0. Bit 1: .. Absent: rising. Bit 2: .. Absent: no label."
-abbrev pub nothingRead : List ℕ → Reading
-nothingRead left = record { n = 0; places = rising 0; label = []; count = 0; cells = []; left = left }
+-- the records in the lent cells: "Cells past an accepted result are 0"
+abbrev pub laidIn : List ℕ → List FileRecord → List ℕ
+laidIn c rs = take (length c) (recordCells rs ++ replicate (length c) 0)
 
--- "The first byte is a bit map": refused are "bits 5 to 7, or bits 3 and 4 together"
-unfoldable pub readFile : ℕ → List ℕ → Outcome
-readFile have file =
-    let map = getD file 0 0 in
-    unless (eqb (length file) 0) 11
-    (unless (leb 32 map || (eqb (bit map 3) 1 && eqb (bit map 4) 1)) 12
-    (andThen (fieldIf (bit map 0) readFlags (nothingRead (drop 1 file))) λ x.
-    andThen (fieldIf (bit map 1) readOrder x) λ x.
-    andThen (fieldIf (bit map 2) readLabel x) λ x. andThen (fieldIf (bit map 3) (readRecords have) x) λ x. readEnd map x))
+-- "then 11 for bytes left over, then 6 for the records": so laid, they are a diagram or not
+unfoldable pub readEnd : List ℕ → List ℕ → Reading → Outcome
+readEnd c file x =
+    let root = rootRead (getD file 0 0) (count x) in
+    unless (leftOver file (x .at) ∷ (not (diagram (x .n) (x .places) (laidIn c (x .records)) (count x) root), 6) ∷ []) x
 
--- "The reader tests 5, then the file from left to right"
+-- the whole file
 unfoldable pub reading : List ℕ → List ℕ → Outcome
-reading c file = unless (not (fitCells c)) 5 (readFile (room c) file)
+reading c file =
+    let map = getD file 0 0 in
+    andThen (readMap c file) λ x.
+    andThen (fieldIf (bit map 0) (readFlags file) x) λ x.
+    andThen (fieldIf (bit map 1) (readOrder file) x) λ x.
+    andThen (fieldIf (bit map 2) (readLabel file) x) λ x.
+    andThen (fieldIf (bit map 3) (readRecords c file) x) λ x. readEnd c file x
 
 abbrev pub readNumber : Outcome → ℕ
 readNumber (stop k) = k
@@ -146,37 +201,41 @@ readNumber (go x) = 0
 -- "it hands back n, the order, the record count and the root": the values of a file that is read, in its reply's sequence
 abbrev pub readValues : List ℕ → Outcome → List ℕ
 readValues file (stop k) = 0 ∷ 0 ∷ 0 ∷ replicate 10 0
-readValues file (go x) = x .n ∷ x .count ∷ rootRead (getD file 0 0) (x .count) ∷ x .places
+readValues file (go x) = x .n ∷ count x ∷ rootRead (getD file 0 0) (count x) ∷ x .places
 
--- the cells after a read: the file's records, and "Cells past an accepted result are 0"
+-- the cells after a read
 abbrev pub readCells : List ℕ → Outcome → List ℕ
 readCells c (stop k) = c
-readCells c (go x) = take (length c) (x .cells ++ replicate (length c) 0)
-
--- "The label is handed out as that part of the caller's file; a refused file gives an empty part."
-abbrev pub labelOf : Outcome → List ℕ
-labelOf (stop k) = []
-labelOf (go x) = x .label
+readCells c (go x) = laidIn c (x .records)
 
 -- read takes a file and cells
 pub record Reads (file c : List ℕ) (r : Reply) (d : List ℕ) : Type 0 where
   pub answer : r ≡ reply (readNumber (reading c file)) (readValues file (reading c file))
   pub cells : d ≡ readCells c (reading c file)
 
--- the label of a file that is read into cells of this length: a file that the reader refuses has an empty one
-abbrev pub Label : List ℕ → List ℕ → List ℕ → Type 0
-Label file c part = part ≡ labelOf (reading c file)
+-- where the label stands; "a refused file gives an empty part"
+abbrev pub labelOf : Outcome → Part
+labelOf (stop k) = noPart
+labelOf (go x) = x .label
+
+-- slice s is that part of a lent file: it lies there (`ptr` is the block of memory that a slice lies in, and its place in the block), and has those bytes
+pub record IsPart (file : RefT (List ℕ)) (p : Part) (s : RefT (List ℕ)) : Type 0 where
+  pub lies : ptr s ≡ (ptr file .0, p .start + ptr file .1)
+  pub bytes : now s ≡ bytesOf p (now file)
+
+-- "The label is handed out as that part of the caller's file": of a file that is read into cells of this length
+abbrev pub Label : RefT (List ℕ) → List ℕ → RefT (List ℕ) → Type 0
+Label file c s = IsPart file (labelOf (reading c (now file))) s
 
 -- ---- the writer
 
--- "file label | 13 | length 0, a byte outside 20 to 7E; for the writer a label above 255 bytes"; "For the writer an empty label means none"
-abbrev pub label : List ℕ → Row
-label l = (ltb 255 (length l) || not (each printable l), 13)
+-- the used records
+abbrev pub recordsIn : List ℕ → ℕ → List FileRecord
+recordsIn c used = map (λ k. record { flag = flagAt c k; low = lowAt c k; high = highAt c k }) (below used)
 
--- the bytes of the first k records, and of all used ones
-unfoldable pub recordBytes : ℕ → List ℕ → List ℕ
-recordBytes zero c = []
-recordBytes (suc k) c = recordBytes k c ++ (flagAt c k ∷ two (lowAt c k) ++ two (highAt c k))
+unfoldable pub recordBytes : List FileRecord → List ℕ
+recordBytes [] = []
+recordBytes (r ∷ rs) = inBytes r ++ recordBytes rs
 
 abbrev pub ifSome : ℕ → List ℕ → List ℕ
 ifSome zero field = []
@@ -190,10 +249,10 @@ bitIf (suc k) b = b
 abbrev pub mapByte : List ℕ → ℕ → ℕ → ℕ
 mapByte l used root = 3 + bitIf (length l) 4 + bitIf used 8 + cond (eqb used 0) (bitIf root 16) 0
 
--- the whole file
+-- the whole file; "For the writer an empty label means none"
 unfoldable pub fileOf : ℕ → List ℕ → List ℕ → ℕ → ℕ → List ℕ → List ℕ
 fileOf n o c used root l =
-    mapByte l used root ∷ n ∷ flags n o ++ (ifSome (length l) (length l ∷ l) ++ ifSome used (two used ++ recordBytes used c))
+    mapByte l used root ∷ n ∷ flags n o ++ (ifSome (length l) (length l ∷ l) ++ ifSome used (two used ++ recordBytes (recordsIn c used)))
 
 -- the writer's sequence: "10, tested after 13, means too few lent bytes"
 abbrev pub writeRows : ℕ → List ℕ → List ℕ → ℕ → ℕ → List ℕ → List ℕ → List Row
@@ -203,7 +262,8 @@ writeRows n o c used root l bytes =
     ∷ cells c
     ∷ diagramRecords n o c used root
     ∷ node used root
-    ∷ label l
+    ∷ longLabel (length l)
+    ∷ labelBytes l
     ∷ (ltb (length bytes) (length (fileOf n o c used root l)), 10)
     ∷ []
 

@@ -13,6 +13,7 @@ pub mod Reply
 pub mod Answers
 pub mod Calls
 pub mod Files
+pub mod Text
 pub mod Listing
 pub mod History
 pub mod Demands

@@ -2,9 +2,7 @@
 -- Assumes nothing.
 use mathlib.Core.Bool.{Bool, true, false, not, _||_}
 use mathlib.Core.List.{List, [], _∷_, _++_, map}
-use Prim.Native.Nat.{ℕ, zero, suc, _+_, _-_, _/_, _%_, _^_}
-use Prim.Native.Char.{code}
-use Prim.Native.String.{String}
+use Prim.Native.Nat.{ℕ, zero, suc, _-_, _^_}
 use lib.Dec.{eqb, ltb}
 use lib.ListN.{length}
 use Rattle.rule.specs.Bits.{below}
@@ -12,42 +10,16 @@ use Rattle.rule.specs.Tests.{each, keep}
 use Rattle.rule.specs.Level.{levelCount, size}
 use Rattle.rule.specs.Order.{askedBefore, packed}
 use Rattle.rule.specs.Refusals.{Row, refusal}
+use Rattle.rule.specs.Text.{text, digitByte, decimal, lineEnd, readLine}
 
--- a text in bytes
-unfoldable pub text : String → List ℕ
-text String.[] = []
-text (String._∷_ c s) = code c ∷ text s
-
--- a number in decimal digits, by fuel: at most as many digits as the number
-unfoldable pub decimalIn : ℕ → ℕ → List ℕ
-decimalIn zero x = (x % 10 + 48) ∷ []
-decimalIn (suc fuel) x = elim (ltb x 10) [ true ↦ (x + 48) ∷ [] | false ↦ decimalIn fuel (x / 10) ++ ((x % 10 + 48) ∷ []) ]
-
-abbrev pub decimal : ℕ → List ℕ
-decimal x = decimalIn x x
-
--- a blank and a number; a line end
-abbrev pub number : ℕ → List ℕ
-number x = text " " ++ decimal x
-
-abbrev pub lineEnd : List ℕ
-lineEnd = 0x0A ∷ []
-
-unfoldable pub numbers : List ℕ → List ℕ
-numbers [] = []
-numbers (x ∷ xs) = number x ++ numbers xs
-
--- "It reads standard input up to the first byte 0A, or to the end"
-unfoldable pub firstLine : List ℕ → List ℕ
-firstLine [] = []
-firstLine (b ∷ bs) = elim (eqb b 0x0A) [ true ↦ [] | false ↦ b ∷ firstLine bs ]
+-- ---- the table's line
 
 -- "as a table of the characters 0 and 1, row 0 first"
 abbrev pub isDigit : ℕ → Bool
-isDigit b = eqb b 48 || eqb b 49
+isDigit b = eqb b (digitByte 0) || eqb b (digitByte 1)
 
 abbrev pub rowsOf : List ℕ → List ℕ
-rowsOf line = map (λ b. b - 48) line
+rowsOf line = map (λ b. b - digitByte 0) line
 
 -- the flag count n of a line of 2^n characters, n up to 10; 11 where there is none
 unfoldable pub flagsFrom : ℕ → ℕ → ℕ → ℕ
@@ -57,11 +29,26 @@ flagsFrom (suc more) n rows = elim (eqb rows (2 ^ n)) [ true ↦ n | false ↦ f
 abbrev pub flagsOf : List ℕ → ℕ
 flagsOf line = flagsFrom 11 0 (length line)
 
--- "More than 1,024 rows print `refused 1`; a row count that is no power of two `refused 2`, the empty line too; another character `refused 3`; nine or
--- ten flags `refused 8`."
+-- "More than 1,024 rows print `refused 1`; a row count that is no power of two `refused 2`, the empty line too; another character `refused 3`"
+abbrev pub lineRows : List ℕ → List Row
+lineRows line = (ltb 1024 (length line), 1) ∷ (ltb 10 (flagsOf line), 2) ∷ (not (each isDigit line), 3) ∷ []
+
+-- "nine or ten flags `refused 8`": "The workspace is 6,561 cells", 3^8
+abbrev pub nineFlags : List ℕ → Row
+nineFlags line = (ltb 8 (flagsOf line), 8)
+
 abbrev pub listingRows : List ℕ → List Row
-listingRows line =
-    (ltb 1024 (length line), 1) ∷ (ltb 10 (flagsOf line), 2) ∷ (not (each isDigit line), 3) ∷ (ltb 8 (flagsOf line), 8) ∷ []
+listingRows line = lineRows line ++ (nineFlags line ∷ [])
+
+-- ---- what is printed
+
+-- a blank and a number; several
+abbrev pub number : ℕ → List ℕ
+number x = text " " ++ decimal x
+
+unfoldable pub numbers : List ℕ → List ℕ
+numbers [] = []
+numbers (x ∷ xs) = number x ++ numbers xs
 
 -- the nodes asking flag v in the packed diagram
 abbrev pub askingPacked : ℕ → List ℕ → ℕ → ℕ
@@ -89,6 +76,6 @@ abbrev pub listedOr : ℕ → List ℕ → List ℕ
 listedOr zero line = listed (flagsOf line) (rowsOf line)
 listedOr (suc k) line = text "refused" ++ (number (suc k) ++ lineEnd)
 
--- all that the program prints, for what it finds on standard input
+-- all that the program prints, for what it finds on standard input: "It reads standard input up to the first byte 0A, or to the end"; what is left is ignored
 unfoldable pub listing : List ℕ → List ℕ
-listing input = listedOr (refusal (listingRows (firstLine input))) (firstLine input)
+listing input = let line = readLine input .0 in listedOr (refusal (listingRows line)) line

@@ -37,12 +37,9 @@ fitOrder n order = eachOnce n order && restZero n order
 abbrev pub inPlaces : List ℕ → List ℕ
 inPlaces order = take places (order ++ replicate places 0)
 
--- "The rising order": flag i stands at place i, and the places from n on are 0
-abbrev pub risingPlace : ℕ → ℕ → ℕ
-risingPlace n i = cond (ltb i n) i 0
-
+-- "The rising order": the flags by their numbers
 abbrev pub rising : ℕ → List ℕ
-rising n = map (risingPlace n) (0 ∷ 1 ∷ 2 ∷ 3 ∷ 4 ∷ 5 ∷ 6 ∷ 7 ∷ 8 ∷ 9 ∷ [])
+rising n = inPlaces (below n)
 
 -- the flags that an order asks before flag v: "the flags standing before it in the order"
 unfoldable pub askedBefore : ℕ → List ℕ → List ℕ
@@ -86,6 +83,10 @@ unfoldable pub leastOf : (List ℕ → ℕ) → List (List ℕ) → List ℕ
 leastOf cost [] = []
 leastOf cost (o ∷ os) = firstLeast cost o (cost o) os
 
+-- what orders are compared by, for a table: the number of nodes
+unfoldable pub rank : List ℕ → List ℕ → ℕ
+rank order t = size order t
+
 -- "The order has the fewest nodes of all n! orders; of several, the one first by dictionary comparison."
 unfoldable pub packed : ℕ → List ℕ → List ℕ
-packed n t = leastOf (λ o. size o t) (orders n)
+packed n t = leastOf (λ o. rank o t) (orders n)

@@ -1,4 +1,4 @@
--- The recursion over sets as a function, for any cost: it solves the recursion, so for the count of nodes it finds `packed`.
+-- The recursion over sets as a function, for any cost: it solves the recursion, so for the rank of orders it finds `packed`.
 -- Assumes nothing.
 use mathlib.Core.Path.{_≡_, refl, sym, ap, _∙_}
 use mathlib.Core.Logic.{_≢_}
@@ -8,8 +8,7 @@ use native.Mathlib.Nat.{le-refl, le-trans, le-of-lt, not-suc-le-zero}
 use native.Mathlib.Omega.{arith}
 use lib.ListN.{length}
 use Rattle.rule.specs.Bits.{bit, setBit}
-use Rattle.rule.specs.Level.{size}
-use Rattle.rule.specs.Order.{packed}
+use Rattle.rule.specs.Order.{rank, packed}
 use Rattle.theory.proofs.Member.{In, head, not-nil}
 use Rattle.theory.proofs.Bits.{bit-zero, clear-lt}
 use Rattle.theory.proofs.Perm.{Exactly}
@@ -150,12 +149,12 @@ module _ (c : ℕ → ℕ → ℕ) (n : ℕ) where
   pub dynamic-least : IsLeast c (2 ^ n - 1) dynamic
   dynamic-least = follows-least c (2 ^ n - 1) bestOf pickOf solved (2 ^ n - 1) dynamic (le-refl _) dynamic-follows .0
 
--- ---- for the count of nodes
+-- ---- for the rank of orders
 
 module _ (n : ℕ) (t : List ℕ) (fit : length t ≡ 2 ^ n) where
   -- any solution of the recursion finds `packed`
   pub dynamic-packs : (best pick : ℕ → ℕ) → Solved (cost n t) (2 ^ n - 1) best pick → (o : List ℕ) → Follows pick (2 ^ n - 1) o
-      → (o ≡ packed n t) × (size (packed n t) t ≡ best (2 ^ n - 1))
+      → (o ≡ packed n t) × (rank (packed n t) t ≡ best (2 ^ n - 1))
   dynamic-packs best pick s o f =
       let (p, e) = packs n t fit best pick s o f in
       let q = packed-one n t o (packed n t) p (packed-is n t) in

@@ -117,7 +117,7 @@ module _ {n used v low high : ℕ} {order c : List ℕ} (s : Sound n order c use
   answered x q (new differ none space) =
       let a = added-put v low high (s .fits) (s .clear) space in
       rw (found-at x (used + 2) q)
-      (record { grows = added-grows differ none a (put-length c used v low high); is = added-named differ none a })
+      (record { grows = added-grows differ none a (put-length c used v low high space); is = added-named differ none a })
   answered x q (full differ none e) =
       rw (found-full x q)
       (record {

@@ -4,12 +4,13 @@ use Prim.Native.Nat.{_-_, _*_}
 use native.Mathlib.Omega.{arith}
 use borrow.Author.Needs.{needs}
 use lib.ListN.{length}
+use Rattle.rule.specs.Cells.{width}
 use Rattle.cells.proofs.Cleared.{Cleared, cleared-none, cleared-more, cleared-all}
 use Rattle.cells.proofs.clear_from.Statement.{statement}
 use Rattle.cells.proofs.clear_from.Tie as tie
 
 abbrev Inv-loop : tie.InvT-loop
-Inv-loop cells₀ k i₀ cells i = Cleared cells₀ (k * 3) i cells
+Inv-loop cells₀ k i₀ cells i = Cleared cells₀ (k * width) i cells
 
 abbrev μ-loop : tie.MeasureT-loop
 μ-loop cells₀ k i₀ cells i = length cells₀ - i

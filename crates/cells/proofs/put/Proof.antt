@@ -1,16 +1,14 @@
--- `cells::put` meets its contract: the three stores are those of the definition.
+-- `cells::put` meets its contract: the stores put the record's cells.
 -- Assumes nothing.
-use mathlib.Core.Path.{refl}
 use native.Mathlib.Omega.{arith}
 use borrow.Author.Needs.{needs}
 use lib.ListN.{length-set}
-use Rattle.cells.specs.Record.{putRecord}
+use Rattle.cells.proofs.Record.{put-stores}
 use Rattle.cells.proofs.put.Statement.{statement}
 use Rattle.cells.proofs.put.Tie as tie
 
 returns : tie.Need-returns
-unfolding putRecord
-returns c = refl
+returns c = put-stores _ _ _ _ _ (c .pre)
 
 pub put-spec : {M : Type 1} → statement M
 put-spec =

@@ -8,13 +8,13 @@ use borrow.Author.Needs.{needs}
 use borrow.Author.Tests.{eq-eqb, ne-eqb}
 use lib.Dec.{eqb}
 use lib.ListN.{length, getD}
-use Rattle.rule.specs.Cells.{restClear}
+use Rattle.rule.specs.Cells.{width, restClear}
 use Rattle.theory.proofs.Scan.{drop-fails, drop-holds}
 use Rattle.cells.proofs.rest_clear.Statement.{statement}
 use Rattle.cells.proofs.rest_clear.Tie as tie
 
 abbrev Inv-loop : tie.InvT-loop
-Inv-loop cells k i₀ i = (k * 3 ≤ i) × ((j : ℕ) → j < i → k * 3 ≤ j → getD cells j 0 ≡ 0)
+Inv-loop cells k i₀ i = (k * width ≤ i) × ((j : ℕ) → j < i → k * width ≤ j → getD cells j 0 ≡ 0)
 
 abbrev μ-loop : tie.MeasureT-loop
 μ-loop cells k i₀ i = length cells - i
