@@ -9,3 +9,5 @@ pub mod Longer
 pub mod Reader
 pub mod NoRoom
 pub mod Demand2
+pub mod Beside
+pub mod Demand3

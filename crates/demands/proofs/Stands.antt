@@ -36,7 +36,7 @@ abbrev pub Passed : List Row → Type 0
 Passed [] = Unit {0}
 Passed (row ∷ rows) = (row .0 ≡ false) × Passed rows
 
-passed : (rows : List Row) → numbered rows ≡ true → refusal rows ≡ 0 → Passed rows
+pub passed : (rows : List Row) → numbered rows ≡ true → refusal rows ≡ 0 → Passed rows
 passed [] h e = tt
 passed ((b, zero) ∷ rows) h e = let z : _≡_ {A = ℕ} 0 1 = cc in absurd (omega arith)
 passed ((b, suc k) ∷ rows) h e = let (p, q) = row-passed b k rows e in (p, passed rows (and-split (ltb 0 (suc k)) (numbered rows) h .1) q)
