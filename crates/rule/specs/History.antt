@@ -87,7 +87,7 @@ abbrev pub isThere : Option (List ℕ) → Bool
 isThere none = false
 isThere (some t) = true
 
--- the same where there is one
+-- the table at a node number that has one
 abbrev pub ruleAt : Book → ℕ → List ℕ
 ruleAt b m = Option·getD (inBook b m) []
 
