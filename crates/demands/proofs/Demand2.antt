@@ -4,12 +4,12 @@ use Rattle.rule.specs.Demands.{Demand2}
 use Rattle.demands.proofs.Stands.{built, packs, checked, written}
 use Rattle.demands.proofs.Reader.{read}
 use Rattle.demands.proofs.Canonical.{canonical, root-last}
-use Rattle.demands.proofs.Counts.{counts}
+use Rattle.demands.proofs.Counts.{counts, asks}
 use Rattle.demands.proofs.Exists.{exists}
 use Rattle.demands.proofs.Needs.{needs}
 use Rattle.demands.proofs.Suffices.{suffices}
 use Rattle.demands.proofs.Same.{one-diagram}
-use Rattle.demands.proofs.NoRoom.{no-room-built, no-room-packed, no-room-flag, no-room-join, no-room-choose, no-room-fix}
+use Rattle.demands.proofs.NoRoom.{no-room-built, no-room-packed, no-room-made}
 
 pub demand2 : Demand2
 demand2 =
@@ -23,13 +23,11 @@ demand2 =
       root-last = root-last;
       counts = counts;
       exists = exists;
+      asks = asks;
       one-diagram = one-diagram;
       needs = needs;
       suffices = suffices;
       no-room-built = no-room-built;
       no-room-packed = no-room-packed;
-      no-room-flag = no-room-flag;
-      no-room-join = no-room-join;
-      no-room-choose = no-room-choose;
-      no-room-fix = no-room-fix;
+      no-room-made = no-room-made;
     }

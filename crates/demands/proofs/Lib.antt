@@ -8,3 +8,5 @@ pub mod Same
 pub mod Reader
 pub mod NoRoom
 pub mod Demand2
+pub mod Beside
+pub mod Demand3

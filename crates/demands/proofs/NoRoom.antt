@@ -15,10 +15,10 @@ use Rattle.rule.specs.Order.{places, flags, fitOrder, packed}
 use Rattle.rule.specs.Cells.{room, sound}
 use Rattle.rule.specs.Diagram.{tableOf}
 use Rattle.rule.specs.Reduced.{DrawnAs}
-use Rattle.rule.specs.Results.{flagTable, digit, needed, free}
-use Rattle.rule.specs.Refusals.{Row, refusal, flagCount, tableLength, tableRead, orderPlaces, cells, records, node, workspace, flagArgument, operatorArgument, valueArgument, result, buildRows, packRows, joined, chosen, fixed}
+use Rattle.rule.specs.Results.{digit, Making, flag, join, choose, fix, madeIn, needed, free}
+use Rattle.rule.specs.Refusals.{Row, refusal, flagCount, tableLength, tableRead, orderPlaces, cells, records, workspace, buildRows, ownRows, makingRows, packRows}
 use Rattle.rule.specs.Reply.{Reply, reply, numberOf}
-use Rattle.rule.specs.Calls.{State, Build, Makes, Flag, Join, Choose, Fix, Pack}
+use Rattle.rule.specs.Calls.{State, Build, Make, Pack}
 use Rattle.rule.specs.Demands.{Fit, NoRoomFor}
 use Rattle.theory.proofs.Tests.{and-split, in-each}
 use Rattle.theory.proofs.Bits.{bit-lt}
@@ -82,29 +82,6 @@ no-room-packed n used root t order c w d x e r b q l o y =
 abbrev Made : ℕ → List ℕ → Type 0
 Made n t = (length t ≡ 2 ^ n) × (fitRows t ≡ true)
 
--- the rows that a call tests before it makes a rule, with those of its own arguments
-abbrev rowsBefore : State → List ℕ → List Row → List Row
-rowsBefore s c own = flagCount (s .n) ∷ orderPlaces (s .n) (s .places) ∷ cells c ∷ records (s .n) (s .places) c (s .used) ∷ own
-
--- and then whether there is room for it
-abbrev makingRows : State → List ℕ → List ℕ → List Row → List Row
-makingRows s c t own = rowsBefore s c own ++ (result (needed (s .n) (s .places) c (s .used) t) (free c (s .used)) ∷ [])
-
-no-room-made : (s s′ : State) (c t d : List ℕ) (own : List Row) (r : Reply) → others own ≡ true → length (s .places) ≡ places
-    → Makes (refusal (makingRows s c t own)) s c t r s′ d → numberOf r ≡ 10
-    → (sound (s .n) (s .places) c (s .used) ≡ true → Passed own → Made (s .n) t) → NoRoomFor s c t
-unfolding fitLength
-no-room-made s s′ c t d own r other l b q made e more m sound-e le kept hm is-t =
-    let have = free c (s .used) in
-    let need = needed (s .n) (s .places) c (s .used) t in
-    let z = ten (refusal (makingRows s c t own)) _ (b .answer) q in
-    let ((few, (o, (_, (x, p)))), g) = tenth (rowsBefore s c own) (ltb have need) other z in
-    let sound-c = not-false _ x in
-    let (rows, bits) = made sound-c p in
-    let f : Fit (s .n) (s .places) t =
-    record { few = ltb-false 10 (s .n) few; kept-in = l; order-fits = not-false _ o; rows = eq-eqb (length t) (2 ^ s .n) rows; bits = bits } in
-    omega (arith, needs (s .n) (s .places) t f c e (s .used) more m sound-c sound-e le kept hm is-t, ltb-true have need g)
-
 -- tables by their rows
 tabled-made : (n : ℕ) (f : ℕ → ℕ) → ((r : ℕ) → f r < 2) → Made n (tabled n f)
 unfolding fitRows
@@ -122,33 +99,42 @@ cond-lt false a b p q = q
 node-rows : (s : State) (c : List ℕ) (m : ℕ) → sound (s .n) (s .places) c (s .used) ≡ true → ltb (s .used + 1) m ≡ false → fitRows (tableOf (s .n) c m) ≡ true
 node-rows s c m x h = fit-table (smaller (sound-view (s .n) (s .places) c (s .used) x)) (s .n) m (ltb-false (s .used + 1) m h)
 
-pub no-room-flag : (s s′ : State) (c d : List ℕ) (i : ℕ) (r : Reply) → length (s .places) ≡ places → Flag s c i r s′ d → numberOf r ≡ 10
-    → NoRoomFor s c (flagTable (s .n) i)
-no-room-flag s s′ c d i r l b q =
-    no-room-made s s′ c (flagTable (s .n) i) d (flagArgument (s .n) i ∷ []) r refl l b q (λ x p. tabled-made (s .n) _ (λ r. bit-lt r i))
-
-pub no-room-join : (s s′ : State) (c d : List ℕ) (code f g : ℕ) (r : Reply) → length (s .places) ≡ places → Join s c code f g r s′ d → numberOf r ≡ 10
-    → NoRoomFor s c (joined (s .n) c code f g)
-no-room-join s s′ c d code f g r l b q =
-    no-room-made s s′ c (joined (s .n) c code f g) d (node (s .used) f ∷ node (s .used) g ∷ operatorArgument code ∷ []) r refl l b q
-    (λ x p. tabled-made (s .n) _ (λ r. digit-lt code (getD (tableOf (s .n) c f) r 0) (getD (tableOf (s .n) c g) r 0)))
-
-pub no-room-choose : (s s′ : State) (c d : List ℕ) (f g h : ℕ) (r : Reply) → length (s .places) ≡ places → Choose s c f g h r s′ d → numberOf r ≡ 10
-    → NoRoomFor s c (chosen (s .n) c f g h)
-no-room-choose s s′ c d f g h r l b q =
-    no-room-made s s′ c (chosen (s .n) c f g h) d (node (s .used) f ∷ node (s .used) g ∷ node (s .used) h ∷ []) r refl l b q
-    (λ x p.
-    let (_, (pg, (ph, _))) = p in
+-- what a call makes of rules that are there
+made : (s : State) (c : List ℕ) (x : Making) → sound (s .n) (s .places) c (s .used) ≡ true → Passed (ownRows (s .n) (s .used) x) → Made (s .n) (madeIn (s .n) c x)
+made s c (flag i) v p = tabled-made (s .n) _ (λ r. bit-lt r i)
+made s c (join code f g) v p = tabled-made (s .n) _ (λ r. digit-lt code (getD (tableOf (s .n) c f) r 0) (getD (tableOf (s .n) c g) r 0))
+made s c (choose f g h) v (_, (pg, (ph, _))) =
     tabled-made (s .n) _ (λ r.
     cond-lt (eqb (getD (tableOf (s .n) c f) r 0) 1) (getD (tableOf (s .n) c g) r 0) (getD (tableOf (s .n) c h) r 0)
-    (row-lt (tableOf (s .n) c g) (node-rows s c g x pg) r)
-    (row-lt (tableOf (s .n) c h) (node-rows s c h x ph) r)))
+    (row-lt (tableOf (s .n) c g) (node-rows s c g v pg) r)
+    (row-lt (tableOf (s .n) c h) (node-rows s c h v ph) r))
+made s c (fix m i b) v (pm, _) = (
+  length-cofactor i b (tableOf (s .n) c m) ∙ length-table (s .n) c m,
+  cofactor-rows i b (tableOf (s .n) c m) (node-rows s c m v pm),
+)
 
-pub no-room-fix : (s s′ : State) (c d : List ℕ) (m i v : ℕ) (r : Reply) → length (s .places) ≡ places → Fix s c m i v r s′ d → numberOf r ≡ 10
-    → NoRoomFor s c (fixed (s .n) c m i v)
-no-room-fix s s′ c d m i v r l b q =
-    no-room-made s s′ c (fixed (s .n) c m i v) d (node (s .used) m ∷ flagArgument (s .n) i ∷ valueArgument v ∷ []) r refl l b q
-    (λ x p. (
-      length-cofactor i v (tableOf (s .n) c m) ∙ length-table (s .n) c m,
-      cofactor-rows i v (tableOf (s .n) c m) (node-rows s c m x (p .0)),
-    ))
+own-others : (n used : ℕ) (x : Making) → others (ownRows n used x) ≡ true
+own-others n used (flag i) = refl
+own-others n used (join code f g) = refl
+own-others n used (choose f g h) = refl
+own-others n used (fix m i b) = refl
+
+pub no-room-made : (s s′ : State) (c d : List ℕ) (x : Making) (r : Reply) → length (s .places) ≡ places → Make s c x r s′ d → numberOf r ≡ 10
+    → NoRoomFor s c (madeIn (s .n) c x)
+unfolding fitLength
+no-room-made s s′ c d x r l b q e more m sound-e le kept hm is-t =
+    let t = madeIn (s .n) c x in
+    let have = free c (s .used) in
+    let need = needed (s .n) (s .places) c (s .used) t in
+    let z = ten (refusal (makingRows (s .n) (s .places) c (s .used) x)) _ (b .answer) q in
+    let ((few, (o, (_, (v, p)))), g) =
+    tenth
+    (flagCount (s .n) ∷ orderPlaces (s .n) (s .places) ∷ cells c ∷ records (s .n) (s .places) c (s .used) ∷ ownRows (s .n) (s .used) x)
+    (ltb have need)
+    (own-others (s .n) (s .used) x)
+    z in
+    let sound-c = not-false _ v in
+    let (rows, bits) = made s c x sound-c p in
+    let f : Fit (s .n) (s .places) t =
+    record { few = ltb-false 10 (s .n) few; kept-in = l; order-fits = not-false _ o; rows = eq-eqb (length t) (2 ^ s .n) rows; bits = bits } in
+    omega (arith, needs (s .n) (s .places) t f c e (s .used) more m sound-c sound-e le kept hm is-t, ltb-true have need g)

@@ -1,2 +1,3 @@
-// Demand 2, proved of the outcomes of the calls: what build, pack, check and read accept stands for one table, and how many records a diagram has.
+// Demands 2 and 3, proved of the outcomes of the calls: what build, pack, check and read accept stands for one table, how many records a diagram has, and what
+// a list of store calls keeps beside its book.
 // It has no code: all of it is in proofs/, over the definitions of the crate rule.

@@ -13,8 +13,8 @@ use Rattle.rule.specs.Level.{nodesOf, size}
 use Rattle.rule.specs.Order.{flags, inPlaces, packed}
 use Rattle.rule.specs.Cells.{width, sound}
 use Rattle.rule.specs.Diagram.{walk, tableOf, diagram}
-use Rattle.rule.specs.Results.{flagTable, needed, rootBy, madeNode}
-use Rattle.rule.specs.Refusals.{refusal, buildRows, checkRows, walkRows, tabulateRows, openRows, constantRows, flagRows, joinRows, chooseRows, fixRows, packRows, joined, chosen, fixed}
+use Rattle.rule.specs.Results.{Making, flag, join, choose, fix, madeIn, needed, rootBy, madeNode}
+use Rattle.rule.specs.Refusals.{refusal, buildRows, checkRows, walkRows, tabulateRows, openRows, constantRows, makingRows, packRows}
 use Rattle.rule.specs.Reply.{Reply, reply, leaves}
 
 -- ---- single diagrams
@@ -76,6 +76,12 @@ pub record Open (s : State) (c : List ℕ) (r : Reply) (s′ : State) (d : List 
   pub answer : r ≡ reply (refusal (openRows (s .n) (s .places) c)) []
   pub cells : d ≡ leaves (refusal (openRows (s .n) (s .places) c)) (replicate (length c) 0) c
 
+-- "constant": an end node, for which no record is needed
+pub record Constant (s : State) (c : List ℕ) (v : ℕ) (r : Reply) (s′ : State) (d : List ℕ) : Type 0 where
+  pub answer : r ≡ reply (refusal (constantRows (s .n) (s .places) c (s .used) v)) (v ∷ [])
+  pub state : s′ ≡ s
+  pub cells : d ≡ c
+
 -- the cells d, once c, hold rule t at its node and what was there before: an accepted call "adds these and no others", and "older node numbers keep their
 -- meaning"
 pub record Holds (s : State) (c t d : List ℕ) : Type 0 where
@@ -98,27 +104,25 @@ pub record Makes (k : ℕ) (s : State) (c t : List ℕ) (r : Reply) (s′ : Stat
   pub state : s′ ≡ leaves k (withUsed s (s .used + needed (s .n) (s .places) c (s .used) t)) s
   pub cells : HoldsOr k s c t d
 
--- "constant": an end node, for which no record is needed
-pub record Constant (s : State) (c : List ℕ) (v : ℕ) (r : Reply) (s′ : State) (d : List ℕ) : Type 0 where
-  pub answer : r ≡ reply (refusal (constantRows (s .n) (s .places) c (s .used) v)) (v ∷ [])
-  pub state : s′ ≡ s
-  pub cells : d ≡ c
+-- a call that makes a rule with records, from the rules in the store
+abbrev pub Make : State → List ℕ → Making → Reply → State → List ℕ → Type 0
+Make s c x r s′ d = Makes (refusal (makingRows (s .n) (s .places) c (s .used) x)) s c (madeIn (s .n) c x) r s′ d
 
 -- "one flag"
 abbrev pub Flag : State → List ℕ → ℕ → Reply → State → List ℕ → Type 0
-Flag s c i r s′ d = Makes (refusal (flagRows (s .n) (s .places) c (s .used) i)) s c (flagTable (s .n) i) r s′ d
+Flag s c i r s′ d = Make s c (flag i) r s′ d
 
 -- "join two rules by an operator code 0 to 15"
 abbrev pub Join : State → List ℕ → ℕ → ℕ → ℕ → Reply → State → List ℕ → Type 0
-Join s c code f g r s′ d = Makes (refusal (joinRows (s .n) (s .places) c (s .used) code f g)) s c (joined (s .n) c code f g) r s′ d
+Join s c code f g r s′ d = Make s c (join code f g) r s′ d
 
 -- "choose: the second rule where the first says yes, else the third"
 abbrev pub Choose : State → List ℕ → ℕ → ℕ → ℕ → Reply → State → List ℕ → Type 0
-Choose s c f g h r s′ d = Makes (refusal (chooseRows (s .n) (s .places) c (s .used) f g h)) s c (chosen (s .n) c f g h) r s′ d
+Choose s c f g h r s′ d = Make s c (choose f g h) r s′ d
 
 -- "fix a flag to 0 or 1 in a rule"
 abbrev pub Fix : State → List ℕ → ℕ → ℕ → ℕ → Reply → State → List ℕ → Type 0
-Fix s c m i b r s′ d = Makes (refusal (fixRows (s .n) (s .places) c (s .used) m i b)) s c (fixed (s .n) c m i b) r s′ d
+Fix s c m i b r s′ d = Make s c (fix m i b) r s′ d
 
 -- ---- packing
 

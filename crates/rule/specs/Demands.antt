@@ -9,17 +9,16 @@ use mathlib.Core.Option.{some}
 use Prim.Native.Nat.{ℕ, _+_, _^_, _≤_, _<_}
 use lib.ListN.{length, getD}
 use Rattle.rule.specs.Table.{fitLength, fitRows}
-use Rattle.rule.specs.Level.{size}
+use Rattle.rule.specs.Level.{levelCount, size}
 use Rattle.rule.specs.Order.{places, flags, fitOrder, askedBefore}
 use Rattle.rule.specs.Cells.{room, sound, flagAt, lowAt, highAt}
 use Rattle.rule.specs.Diagram.{tableOf, diagram, asking}
 use Rattle.rule.specs.Reduced.{DrawnAs}
-use Rattle.rule.specs.Results.{flagTable, needed}
-use Rattle.rule.specs.Refusals.{joined, chosen, fixed}
+use Rattle.rule.specs.Results.{Making, madeIn, needed}
 use Rattle.rule.specs.Reply.{Reply, accepted, numberOf, Accepted}
-use Rattle.rule.specs.Calls.{State, Build, Check, Tabulates, Tabulate, Walk, Flag, Join, Choose, Fix, Pack}
+use Rattle.rule.specs.Calls.{State, Build, Check, Tabulates, Tabulate, Walk, Make, Pack}
 use Rattle.rule.specs.Files.{Reads, Writes}
-use Rattle.rule.specs.History.{Call, Meets, Calls, Opens, BeginsOpen, Book, inBook, enter, bookOf}
+use Rattle.rule.specs.History.{Call, Calls, Opens, BeginsOpen, Book, inBook, enter, bookOf}
 
 -- n flags in a fit order, and a fit table of theirs
 pub record Fit (n : ℕ) (order t : List ℕ) : Type 0 where
@@ -79,6 +78,10 @@ pub record Demand2 : Type 0 where
   -- what refusal 10 counts for build and pack: the records of each diagram of the table, of which there is one in every order
   pub counts : (n : ℕ) (order t : List ℕ) → Fit n order t → (c : List ℕ) (used root : ℕ) → DrawnAs n order t c used root → used ≡ size (flags n order) t
   pub exists : (n : ℕ) (order t : List ℕ) → Fit n order t → (c : List ℕ) × (used : ℕ) × (root : ℕ) × DrawnAs n order t c used root
+  -- and how many of these records ask each flag, as the listing prints: "Nodes asking flag v number the distinct rules that depend on v and arise by fixing the
+  -- flags before v in all ways."
+  pub asks : (n : ℕ) (order t : List ℕ) → Fit n order t → (c : List ℕ) (used root : ℕ) → DrawnAs n order t c used root → (v : ℕ) → v < n
+      → asking c used v ≡ levelCount (askedBefore v (flags n order)) v t
   -- what refusal 10 counts for a rule made in a store: no sound cells that keep the older nodes and hold the rule use fewer records
   pub needs : (n : ℕ) (order t : List ℕ) → Fit n order t → (c d : List ℕ) (used more m : ℕ) → sound n order c used ≡ true → sound n order d more ≡ true
       → used ≤ more → ((k : ℕ) → k ≤ used + 1 → tableOf n d k ≡ tableOf n c k) → m ≤ more + 1 → tableOf n d m ≡ t
@@ -95,22 +98,16 @@ pub record Demand2 : Type 0 where
   pub no-room-packed : (n used root : ℕ) (t order c w d x e : List ℕ) (r : Reply) → Pack n t c w r d x → numberOf r ≡ 10 → length order ≡ places
       → fitOrder n order ≡ true → DrawnAs n order t e used root → room c < used
   -- and where a call is that makes a rule in a store, the older nodes and the rule have together
-  pub no-room-flag : (s s′ : State) (c d : List ℕ) (i : ℕ) (r : Reply) → length (s .places) ≡ places → Flag s c i r s′ d → numberOf r ≡ 10
-      → NoRoomFor s c (flagTable (s .n) i)
-  pub no-room-join : (s s′ : State) (c d : List ℕ) (code f g : ℕ) (r : Reply) → length (s .places) ≡ places → Join s c code f g r s′ d → numberOf r ≡ 10
-      → NoRoomFor s c (joined (s .n) c code f g)
-  pub no-room-choose : (s s′ : State) (c d : List ℕ) (f g h : ℕ) (r : Reply) → length (s .places) ≡ places → Choose s c f g h r s′ d → numberOf r ≡ 10
-      → NoRoomFor s c (chosen (s .n) c f g h)
-  pub no-room-fix : (s s′ : State) (c d : List ℕ) (m i v : ℕ) (r : Reply) → length (s .places) ≡ places → Fix s c m i v r s′ d → numberOf r ≡ 10
-      → NoRoomFor s c (fixed (s .n) c m i v)
+  pub no-room-made : (s s′ : State) (c d : List ℕ) (x : Making) (r : Reply) → length (s .places) ≡ places → Make s c x r s′ d → numberOf r ≡ 10
+      → NoRoomFor s c (madeIn (s .n) c x)
 
 -- ---- demand 3
 
--- "each rule in the scope paper's plain book of these calls answers, row by row, what the book has, wherever tabulating or walking it is accepted", and
--- "tabulating a rule in the book gives neither 6 nor 7"
+-- "each rule in the scope paper's plain book of these calls answers, row by row, what the book has, wherever tabulating or walking it is accepted" (a walk's
+-- answer is the first value that it hands back), and "tabulating a rule in the book gives neither 6 nor 7"
 pub record AnswersAs (s : State) (c : List ℕ) (m : ℕ) (t : List ℕ) : Type 0 where
   pub tabulated : (bytes after : List ℕ) (r : Reply) (s′ : State) → Tabulate s c m bytes r s′ after → Accepted r → after ≡ t
-  pub walked : (row a : ℕ) (r : Reply) (s′ : State) → Walk s c m row r s′ → Gives r (a ∷ []) → a ≡ getD t row 0
+  pub walked : (row a : ℕ) (more : List ℕ) (r : Reply) (s′ : State) → Walk s c m row r s′ → Gives r (a ∷ more) → a ≡ getD t row 0
   pub there : (bytes after : List ℕ) (r : Reply) (s′ : State) → Tabulate s c m bytes r s′ after → (numberOf r ≢ 6) × (numberOf r ≢ 7)
 
 -- "its packed diagram tabulates to that same table; the node count handed back is the number of its records, and every other order of the flags draws
@@ -120,20 +117,25 @@ pub record PackedWell (n : ℕ) (t order : List ℕ) (nodes root : ℕ) (d : Lis
   pub fewest : (other cells : List ℕ) (used top : ℕ) → length other ≡ places → fitOrder n other ≡ true → DrawnAs n other t cells used top → nodes ≤ used
 
 -- "To bring out a rule is to tabulate it and pack the table, as left, into cells other than the store's, both calls being accepted."
-abbrev pub BroughtOut : State → List ℕ → ℕ → ℕ → List ℕ → Type 0
-BroughtOut s c m n t =
+abbrev pub BroughtOut : State → List ℕ → ℕ → List ℕ → Type 0
+BroughtOut s c m t =
     (bytes after : List ℕ) (r : Reply) (s′ : State) → Tabulate s c m bytes r s′ after → Accepted r
-    → (cells w d x order : List ℕ) (p : Reply) (nodes root : ℕ) → Pack n after cells w p d x → Gives p (nodes ∷ root ∷ order)
+    → (n nodes root : ℕ) (order cells w d x : List ℕ) (p : Reply) → Pack n after cells w p d x → Gives p (nodes ∷ root ∷ order)
     → PackedWell n t order nodes root d
 
--- what holds of each rule in the book after the list
-pub record RuleKept (s : State) (c : List ℕ) (b : Book) (m : ℕ) (t : List ℕ) : Type 0 where
+-- what holds of rule t at node m of the book after the list
+pub record RuleKept (s : State) (c : List ℕ) (m : ℕ) (t : List ℕ) : Type 0 where
   pub answers : AnswersAs s c m t
-  pub brought-out : BroughtOut s c m (b .n) t
+  pub brought-out : BroughtOut s c m t
 
--- "a table written over an older one equals it": by one more call x, which is no accepted open
+-- "a table written over an older one equals it": so at call x, unless it is an accepted open, which wipes the book
 abbrev pub Agrees : Book → Call → Type 0
 Agrees b x = (m : ℕ) (t u : List ℕ) → inBook b m ≡ some t → inBook (enter b x) m ≡ some u → (Opens x → ⊥) → t ≡ u
+
+-- so at every call of a list, as the book is fed one after the other
+abbrev pub AgreesThroughout : Book → List Call → Type 0
+AgreesThroughout b [] = Unit {0}
+AgreesThroughout b (x ∷ xs) = Agrees b x × AgreesThroughout (enter b x) xs
 
 -- "The set asked before a flag is the flags standing before it in the order": the same set for two orders
 abbrev pub SameBefore : ℕ → ℕ → List ℕ → List ℕ → Type 0
@@ -145,10 +147,12 @@ EquallyMany n t =
     (o p : List ℕ) → Fit n o t → Fit n p t → (v : ℕ) → v < n → SameBefore n v o p
     → (c d : List ℕ) (used top more root : ℕ) → DrawnAs n o t c used top → DrawnAs n p t d more root → asking c used v ≡ asking d more v
 
--- Demand 3: one claim about any list of calls that begins with an accepted open, from any state, any cells and any book, and one call more
-pub record Demand3 : Type 0 where
-  pub kept : (first s : State) (cells c : List ℕ) (b : Book) (xs : List Call) → Calls first cells xs s c → BeginsOpen xs
-      → (m : ℕ) (t : List ℕ) → inBook (bookOf b xs) m ≡ some t → RuleKept s c (bookOf b xs) m t
-  pub rewritten : (first s : State) (cells c : List ℕ) (b : Book) (xs : List Call) → Calls first cells xs s c → BeginsOpen xs
-      → (x : Call) → Meets s c x → Agrees (bookOf b xs) x
+-- what is claimed of a list of calls xs that has led to state s and cells c, where b is the book before it
+pub record AfterList (s : State) (c : List ℕ) (b : Book) (xs : List Call) : Type 0 where
+  pub kept : (m : ℕ) (t : List ℕ) → inBook (bookOf b xs) m ≡ some t → RuleKept s c m t
+  pub rewritten : AgreesThroughout b xs
   pub equally : (n : ℕ) (t : List ℕ) → EquallyMany n t
+
+-- Demand 3: one claim about any list of calls that begins with an accepted open, from any state, any cells and any book
+abbrev pub Demand3 : Type 0
+Demand3 = (first s : State) (cells c : List ℕ) (b : Book) (xs : List Call) → Calls first cells xs s c → BeginsOpen xs → AfterList s c b xs

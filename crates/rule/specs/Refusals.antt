@@ -2,16 +2,16 @@
 -- The reader's own sequence is in Files.antt.
 -- Assumes nothing.
 use mathlib.Core.Bool.{Bool, true, false, not, _&&_, _||_}
-use mathlib.Core.List.{List, [], _∷_}
+use mathlib.Core.List.{List, [], _∷_, _++_, map}
 use Prim.Native.Nat.{ℕ, _+_, _^_}
 use lib.Dec.{leb, ltb}
 use lib.ListN.{length}
-use Rattle.rule.specs.Table.{fitLength, fitRows, cofactor}
+use Rattle.rule.specs.Table.{fitLength, fitRows}
 use Rattle.rule.specs.Level.{size}
 use Rattle.rule.specs.Order.{flags, fitOrder, packed}
 use Rattle.rule.specs.Cells.{fitCells, room, sound}
-use Rattle.rule.specs.Diagram.{allReached, tableOf}
-use Rattle.rule.specs.Results.{flagTable, joinTable, chooseTable, needed, free}
+use Rattle.rule.specs.Diagram.{allReached}
+use Rattle.rule.specs.Results.{Making, flag, join, choose, fix, rulesAmong, madeIn, needed, free}
 
 -- a row of the table: whether it applies, and its number
 abbrev pub Row : Type 0
@@ -108,55 +108,25 @@ openRows n o c = flagCount n ∷ orderPlaces n o ∷ cells c ∷ []
 abbrev pub constantRows : ℕ → List ℕ → List ℕ → ℕ → ℕ → List Row
 constantRows n o c used v = flagCount n ∷ orderPlaces n o ∷ cells c ∷ records n o c used ∷ valueArgument v ∷ []
 
-abbrev pub flagRows : ℕ → List ℕ → List ℕ → ℕ → ℕ → List Row
-flagRows n o c used i =
-    flagCount n ∷ orderPlaces n o ∷ cells c ∷ records n o c used ∷ flagArgument n i ∷ result (needed n o c used (flagTable n i)) (free c used) ∷ []
+-- what refusal 9 tests of the arguments of a call that makes a rule
+abbrev pub argumentRows : ℕ → Making → List Row
+argumentRows n (flag i) = flagArgument n i ∷ []
+argumentRows n (join code f g) = operatorArgument code ∷ []
+argumentRows n (choose f g h) = []
+argumentRows n (fix m i b) = flagArgument n i ∷ valueArgument b ∷ []
 
--- the table that a join makes of nodes f and g; that choose makes of f, g and h; that fix makes of m
-abbrev pub joined : ℕ → List ℕ → ℕ → ℕ → ℕ → List ℕ
-joined n c code f g = joinTable n code (tableOf n c f) (tableOf n c g)
+-- all that is tested of its arguments: 7 for each rule among them, then 9
+abbrev pub ownRows : ℕ → ℕ → Making → List Row
+ownRows n used x = map (node used) (rulesAmong x) ++ argumentRows n x
 
-abbrev pub chosen : ℕ → List ℕ → ℕ → ℕ → ℕ → List ℕ
-chosen n c f g h = chooseTable n (tableOf n c f) (tableOf n c g) (tableOf n c h)
-
-abbrev pub fixed : ℕ → List ℕ → ℕ → ℕ → ℕ → List ℕ
-fixed n c m i b = cofactor i b (tableOf n c m)
-
-abbrev pub joinRows : ℕ → List ℕ → List ℕ → ℕ → ℕ → ℕ → ℕ → List Row
-joinRows n o c used code f g =
+-- flag, join, choose, fix
+abbrev pub makingRows : ℕ → List ℕ → List ℕ → ℕ → Making → List Row
+makingRows n o c used x =
     flagCount n
     ∷ orderPlaces n o
     ∷ cells c
     ∷ records n o c used
-    ∷ node used f
-    ∷ node used g
-    ∷ operatorArgument code
-    ∷ result (needed n o c used (joined n c code f g)) (free c used)
-    ∷ []
-
-abbrev pub chooseRows : ℕ → List ℕ → List ℕ → ℕ → ℕ → ℕ → ℕ → List Row
-chooseRows n o c used f g h =
-    flagCount n
-    ∷ orderPlaces n o
-    ∷ cells c
-    ∷ records n o c used
-    ∷ node used f
-    ∷ node used g
-    ∷ node used h
-    ∷ result (needed n o c used (chosen n c f g h)) (free c used)
-    ∷ []
-
-abbrev pub fixRows : ℕ → List ℕ → List ℕ → ℕ → ℕ → ℕ → ℕ → List Row
-fixRows n o c used m i b =
-    flagCount n
-    ∷ orderPlaces n o
-    ∷ cells c
-    ∷ records n o c used
-    ∷ node used m
-    ∷ flagArgument n i
-    ∷ valueArgument b
-    ∷ result (needed n o c used (fixed n c m i b)) (free c used)
-    ∷ []
+    ∷ (ownRows n used x ++ (result (needed n o c used (madeIn n c x)) (free c used) ∷ []))
 
 abbrev pub packRows : ℕ → List ℕ → List ℕ → List ℕ → List Row
 packRows n t c w =

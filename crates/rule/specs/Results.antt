@@ -1,4 +1,4 @@
--- The tables that store calls make, and the records that a result needs (document 01, "The store" and "The book beside the store").
+-- The calls that make a rule, the tables that they make, and the records that a result needs (document 01, "The store" and "The book beside the store").
 -- Assumes nothing.
 use mathlib.Core.Bool.{true, false, not, cond}
 use mathlib.Core.List.{List, [], _∷_, map}
@@ -7,7 +7,7 @@ use lib.Dec.{eqb}
 use lib.ListN.{length, getD}
 use Rattle.rule.specs.Bits.{bit, below}
 use Rattle.rule.specs.Tests.{keep, same, among}
-use Rattle.rule.specs.Table.{tabled}
+use Rattle.rule.specs.Table.{tabled, cofactor}
 use Rattle.rule.specs.Level.{nodesOf}
 use Rattle.rule.specs.Order.{flags}
 use Rattle.rule.specs.Cells.{room}
@@ -34,6 +34,39 @@ abbrev pub chooseTable : ℕ → List ℕ → List ℕ → List ℕ → List ℕ
 chooseTable n f g h = tabled n (λ r. cond (eqb (getD f r 0) 1) (getD g r 0) (getD h r 0))
 
 -- (Restrict: "the rule's row whose number is r with bit i set to the fixed value" is `cofactor` of Table.antt.)
+
+-- ---- the calls that make a rule
+
+-- a call that makes a rule with records, and its arguments; nodes are given by their numbers
+pub data Making : Type 0 where
+  -- "one flag"
+  flag : (i : ℕ) → Making
+  -- "join two rules by an operator code 0 to 15"
+  join : (code f g : ℕ) → Making
+  -- "choose: the second rule where the first says yes, else the third"
+  choose : (f g h : ℕ) → Making
+  -- "fix a flag to 0 or 1 in a rule"
+  fix : (m i b : ℕ) → Making
+
+-- the rules among its arguments, by their nodes
+abbrev pub rulesAmong : Making → List ℕ
+rulesAmong (flag i) = []
+rulesAmong (join code f g) = f ∷ g ∷ []
+rulesAmong (choose f g h) = f ∷ g ∷ h ∷ []
+rulesAmong (fix m i b) = m ∷ []
+
+-- the table that it makes, where `rule` has the table of each node
+abbrev pub madeFrom : ℕ → (ℕ → List ℕ) → Making → List ℕ
+madeFrom n rule (flag i) = flagTable n i
+madeFrom n rule (join code f g) = joinTable n code (rule f) (rule g)
+madeFrom n rule (choose f g h) = chooseTable n (rule f) (rule g) (rule h)
+madeFrom n rule (fix m i b) = cofactor i b (rule m)
+
+-- the table that it makes in a store's cells
+abbrev pub madeIn : ℕ → List ℕ → Making → List ℕ
+madeIn n c x = madeFrom n (tableOf n c) x
+
+-- ---- the records that a result needs
 
 -- the tables of the used records
 abbrev pub recordTables : ℕ → List ℕ → ℕ → List (List ℕ)

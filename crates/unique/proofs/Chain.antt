@@ -1,7 +1,7 @@
 -- The laws of the index: the chain of one hash passes every record that can be the one looked for, and one record more is entered by a link and a head.
 -- Assumes nothing.
 use mathlib.Core.Path.{_≡_, refl, sym, ap, _∙_}
-use mathlib.Core.Logic.{⊎-elim}
+use mathlib.Core.Logic.{inl, ⊎-elim}
 use mathlib.Core.Bool.{cond}
 use mathlib.Core.List.{List}
 use Prim.Native.Nat.{ℕ, zero, suc, _+_, _-_, _*_, _%_, _≤_, _<_}
@@ -13,7 +13,7 @@ use borrow.Author.Count.{below-more}
 use borrow.Author.Tests.{eq-eqb, ne-eqb}
 use lib.ListN.{length, getD, set, replicate, length-set, length-replicate}
 use lib.Seq.{getD-set-same, getD-set-other}
-use Rattle.rule.specs.Cells.{width, flagAt, lowAt, highAt}
+use Rattle.rule.specs.Cells.{width, room, flagAt, lowAt, highAt}
 use Rattle.cells.specs.Record.{putRecord}
 use Rattle.cells.proofs.Record.{put-else}
 use Rattle.theory.proofs.Walks.{flag-kept, low-kept, high-kept}
@@ -130,11 +130,12 @@ pub index-entered : {c index : List ℕ} {k h flag low high : ℕ} → k < heads
 index-entered few x f l g e = rw (e, f, l, g) (index-more few x)
 
 -- a record put behind the used ones is to be entered in the index as it is
-pub index-put : {c index : List ℕ} {used : ℕ} (flag low high : ℕ) → Indexed c used index → Indexed (putRecord c used flag low high) used index
-index-put {c} {index} {used} flag low high x =
+pub index-put : {c index : List ℕ} {used : ℕ} (flag low high : ℕ) → used < room c → Indexed c used index
+    → Indexed (putRecord c used flag low high) used index
+index-put {c} {index} {used} flag low high space x =
     let put = putRecord c used flag low high in
     let agree : (i : ℕ) → i < used * width → getD c i 0 ≡ getD put i 0 =
-    λ i h. sym (put-else c used flag low high i (omega arith) (omega arith) (omega arith)) in
+    λ i h. sym (put-else c used flag low high space i (inl h)) in
     index-kept
     (λ j h.
     rw (flag-kept c put used agree j h, low-kept c put used agree j h, high-kept c put used agree j h))

@@ -1,0 +1,121 @@
+-- Demand 3, whole: what is in the book after a list of calls answers so, and is brought out well.
+-- Assumes nothing.
+use mathlib.Core.Path.{_≡_, refl, sym, ap, _∙_}
+use mathlib.Core.Logic.{_≢_}
+use mathlib.Core.Bool.{Bool, true, false, not, _&&_}
+use mathlib.Core.List.{List, [], _∷_}
+use mathlib.Core.Option.{some}
+use Prim.Native.Nat.{ℕ, zero, suc, _+_, _^_, _≤_}
+use native.Mathlib.Omega.{arith}
+use borrow.Author.Tests.{ltb-false, le-ltb, leb-true, leb-false, not-false}
+use lib.Dec.{leb, ltb}
+use lib.ListN.{getD, drop}
+use Rattle.rule.specs.Table.{fitLength}
+use Rattle.rule.specs.Level.{size}
+use Rattle.rule.specs.Order.{flags, fitOrder, packed}
+use Rattle.rule.specs.Cells.{fitCells}
+use Rattle.rule.specs.Diagram.{walk, tableOf}
+use Rattle.rule.specs.Refusals.{Row, refusal, tabulateRows, walkRows, packRows}
+use Rattle.rule.specs.Reply.{Reply, reply, numberOf, Accepted, leaves}
+use Rattle.rule.specs.Calls.{State, Tabulate, Walk, Pack}
+use Rattle.rule.specs.History.{Book, inBook}
+use Rattle.rule.specs.Demands.{Fit, Gives, PackedWell, RuleKept, Demand3}
+use Rattle.theory.proofs.Tests.{and-split}
+use Rattle.theory.proofs.Walks.{table-row}
+use Rattle.theory.proofs.Orders.{fit-order-is, packed-is}
+use Rattle.demands.proofs.Stands.{accepted-reply, passed, packs}
+use Rattle.demands.proofs.Counts.{counts, equally}
+use Rattle.demands.proofs.Beside.{After, live, shut, steps-from-open}
+
+-- ---- the number that tabulate gives
+
+accepted-zero : (k : ℕ) (values : List ℕ) {r : Reply} → r ≡ reply k values → Accepted r → k ≡ 0
+accepted-zero zero values e h = refl
+accepted-zero (suc k) values e h = absurd (rw e at h)
+
+number-of : (k : ℕ) (values : List ℕ) → numberOf (reply k values) ≡ k
+number-of zero values = refl
+number-of (suc k) values = refl
+
+-- the numbers of these rows are at most so much, and so is the one that they give
+abbrev upTo : ℕ → List Row → Bool
+upTo most [] = true
+upTo most (row ∷ rows) = leb (row .1) most && upTo most rows
+
+refusal-le : (most : ℕ) (rows : List Row) → upTo most rows ≡ true → refusal rows ≤ most
+refusal-le most [] h = omega arith
+refusal-le most ((true, k) ∷ rows) h = leb-true k most (and-split (leb k most) (upTo most rows) h .0)
+refusal-le most ((false, k) ∷ rows) h = refusal-le most rows (and-split (leb k most) (upTo most rows) h .1)
+
+-- under a shut state it is 1, 2 or 4
+shut-le : (a b c : Bool) (rest : List Row) → (a ≡ false → c ≡ false → ⊥) → refusal ((a, 1) ∷ (b, 2) ∷ (c, 4) ∷ rest) ≤ 4
+shut-le true b c rest h = omega arith
+shut-le false true c rest h = omega arith
+shut-le false false true rest h = omega arith
+shut-le false false false rest h = absurd (h refl refl)
+
+-- of a rule in the book at most 5
+tabulate-le : {s : State} {c : List ℕ} {b : Book} (m : ℕ) (t bytes : List ℕ) → After s c b → inBook b m ≡ some t
+    → refusal (tabulateRows (s .n) (s .places) c (s .used) m bytes) ≤ 5
+tabulate-le {s} {c} m t bytes (live k) p =
+    rw (k .is-sound, le-ltb (s .used + 1) m (k .rules m t p .0))
+    (refusal-le 5 ((ltb 10 (s .n), 1) ∷ (not (fitLength (s .n) bytes), 2) ∷ (not (fitOrder (s .n) (s .places)), 4) ∷ (not (fitCells c), 5) ∷ []) refl)
+tabulate-le {s} {c} m t bytes (shut g k h) p =
+    let rest = drop 3 (tabulateRows (s .n) (s .places) c (s .used) m bytes) in
+    omega (arith, shut-le (ltb 10 (s .n)) (not (fitLength (s .n) bytes)) (not (fitOrder (s .n) (s .places))) rest h)
+
+-- ---- a rule in the book
+
+module _ {s : State} {c : List ℕ} {b : Book} (a : After s c b) (m : ℕ) (t : List ℕ) (p : inBook b m ≡ some t) where
+  -- where the state's flags and order are fit, it is that of its node
+  node-rule : ltb 10 (s .n) ≡ false → not (fitOrder (s .n) (s .places)) ≡ false → tableOf (s .n) c m ≡ t
+  node-rule few o = elim a [ live k ↦ k .rules m t p .1 | shut g k h ↦ absurd (h few o) ]
+
+  tabulated : (bytes after : List ℕ) (r : Reply) (s′ : State) → Tabulate s c m bytes r s′ after → Accepted r → after ≡ t
+  tabulated bytes after r s′ x h =
+      let rows = tabulateRows (s .n) (s .places) c (s .used) m bytes in
+      let z = accepted-zero (refusal rows) [] (x .tabulates .answer) h in
+      let (few, (_, (o, _))) = passed rows refl z in
+      x .tabulates .bytes-are ∙ ap (λ (k : ℕ). leaves k (tableOf (s .n) c m) bytes) z ∙ node-rule few o
+
+  walked : (row v : ℕ) (more : List ℕ) (r : Reply) (s′ : State) → Walk s c m row r s′ → Gives r (v ∷ more) → v ≡ getD t row 0
+  walked row v more r s′ x g =
+      let rows = walkRows (s .n) (s .places) c (s .used) m row in
+      let (z, e) = accepted-reply (refusal rows) (x .walks .answer) g in
+      let (few, (o, (_, (_, (_, (h, _)))))) = passed rows refl z in
+      let v-is : v ≡ walk c m row = cc in
+      v-is ∙ sym (table-row (s .n) c m row (leb-false (2 ^ s .n) row h)) ∙ ap (λ (u : List ℕ). getD u row 0) (node-rule few o)
+
+  there : (bytes after : List ℕ) (r : Reply) (s′ : State) → Tabulate s c m bytes r s′ after → (numberOf r ≢ 6) × (numberOf r ≢ 7)
+  there bytes after r s′ x =
+      let e = ap numberOf (x .tabulates .answer) ∙ number-of (refusal (tabulateRows (s .n) (s .places) c (s .used) m bytes)) [] in
+      let h = tabulate-le m t bytes a p in
+      (λ q. omega arith, λ q. omega arith)
+
+packed-well : (n nodes root : ℕ) (t order c w d x : List ℕ) (r : Reply) → Pack n t c w r d x → Gives r (nodes ∷ root ∷ order) → PackedWell n t order nodes root d
+packed-well n nodes root t order c w d x r b g =
+    let (z, v) = accepted-reply (refusal (packRows n t c w)) (b .answer) g in
+    let (few, (rows, (bits, _))) = passed (packRows n t c w) refl z in
+    let nodes-is : nodes ≡ size (packed n t) t = cc in
+    record {
+      stands = packs n nodes root t order c w d x r b g;
+      fewest = λ other cells used top l o y.
+          let f : Fit n other t =
+          record { few = ltb-false 10 n few; kept-in = l; order-fits = o; rows = not-false _ rows; bits = not-false _ bits } in
+          omega (arith, counts n other t f cells used top y, packed-is n t .fewest (flags n other) (fit-order-is n other o));
+    }
+
+rule-kept : {s : State} {c : List ℕ} {b : Book} → After s c b → (m : ℕ) (t : List ℕ) → inBook b m ≡ some t → RuleKept s c m t
+rule-kept a m t p =
+    record {
+      answers = record { tabulated = tabulated a m t p; walked = walked a m t p; there = there a m t p };
+      brought-out = λ bytes after r s′ x h n nodes root order cells w d y q z g.
+          packed-well n nodes root t order cells w d y q (rw (tabulated a m t p bytes after r s′ x h) at z) g;
+    }
+
+-- ---- the list
+
+pub demand3 : Demand3
+demand3 first s cells c b xs ys h =
+    let (last, throughout) = steps-from-open first s cells c b xs ys h in
+    record { kept = rule-kept last; rewritten = throughout; equally = equally }
