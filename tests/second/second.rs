@@ -1,8 +1,16 @@
 //! The second program: an oracle for the diagram engine, written apart from it. From a table it
 //! draws the full decision tree, applies the two collapsing steps of document 001, section 2.1,
-//! as they are worded, and finds the packed order by trying every order. It checks the papers'
-//! examples, writes test vectors, lists a table and reads rule files. "The paper" below is
-//! document 01; `Err` holds the number of a refusal. Build: rustc -O --edition 2021 second.rs
+//! as they are worded, and finds the packed order by trying every order. It keeps a store by
+//! tables alone, and the plain book beside it. It checks the papers' examples, writes test vectors,
+//! lists a table, reads rule files and plays lists of store calls. "The paper" below is document
+//! 01; `Err` holds the number of a refusal. Build: rustc -O --edition 2021 second.rs
+
+mod book;
+mod lists;
+mod play;
+mod scribe;
+mod store;
+mod worked;
 
 use std::io::Read;
 
@@ -315,7 +323,7 @@ fn answer(ask: &str) -> Result<String, usize> {
     Ok(format!("nodes {nodes}; {order}; {flags}; root {root}"))
 }
 
-/// Gives the exit code: 0 if every example agrees.
+/// Gives the exit code: 0 if every example agrees, and the store's own checks.
 fn check() -> i32 {
     let mut code = 0;
     for (ask, expected) in EXAMPLES {
@@ -325,8 +333,12 @@ fn check() -> i32 {
             code = 1;
         }
     }
+    for fault in worked::faults() {
+        println!("second: {fault}");
+        code = 1;
+    }
     if code == 0 {
-        println!("second: {} examples agree", EXAMPLES.len());
+        println!("second: {} examples agree", EXAMPLES.len() + worked::LISTS.len());
     }
     code
 }
@@ -424,7 +436,10 @@ fn vectors(directory: &str) -> std::io::Result<()> {
     std::fs::write(format!("{directory}/pack.in"), pack_in)?;
     std::fs::write(format!("{directory}/pack.out"), pack_out)?;
     std::fs::write(format!("{directory}/build.in"), build_in)?;
-    std::fs::write(format!("{directory}/build.out"), build_out)
+    std::fs::write(format!("{directory}/build.out"), build_out)?;
+    let (store_in, store_out) = lists::vectors();
+    std::fs::write(format!("{directory}/store.in"), store_in)?;
+    std::fs::write(format!("{directory}/store.out"), store_out)
 }
 
 /// Gives the exit code, or None for any other use.
@@ -439,6 +454,7 @@ fn run(words: &[&str]) -> Option<i32> {
                 println!("{}", read_line(line)?);
             }
         }
+        ["store"] => print!("{}", play::play(&String::from_utf8(input()).ok()?)),
         _ => return None,
     }
     Some(0)
@@ -448,7 +464,9 @@ fn main() {
     let arguments: Vec<String> = std::env::args().skip(1).collect();
     let code = run(&arguments.iter().map(String::as_str).collect::<Vec<_>>());
     if code.is_none() {
-        eprintln!("usage: second check | vectors DIR | list <table | file <hexadecimal-lines");
+        eprintln!(
+            "usage: second check | vectors DIR | list <table | file <hex-lines | store <lists"
+        );
     }
     std::process::exit(code.unwrap_or(2));
 }

@@ -1,0 +1,328 @@
+//! The lists of store calls that are written as vectors: each refusal at its edge, stores that are
+//! filled to the last record, and random lists.
+
+use crate::play::play;
+use crate::scribe::{kinds, Scribe, CALLS};
+use crate::Dice;
+use std::collections::{BTreeMap, BTreeSet};
+
+/// The test program reads its input in one piece, of fewer bytes than these.
+const INPUT: usize = 65_536;
+
+/// The rows of the refusal table that each call tests.
+const TESTED: &[(char, &[usize])] = &[
+    ('o', &[1, 4, 5]),
+    ('k', &[1, 4, 5, 6, 9]),
+    ('f', &[1, 4, 5, 6, 9, 10]),
+    ('j', &[1, 4, 5, 6, 7, 9, 10]),
+    ('c', &[1, 4, 5, 6, 7, 10]),
+    ('x', &[1, 4, 5, 6, 7, 9, 10]),
+    ('t', &[1, 2, 4, 5, 6, 7]),
+    ('w', &[1, 4, 5, 6, 7, 9]),
+];
+
+/// States given to open: n, the order and the used number, at the edges of what is fit.
+const STATES: &[&str] = &[
+    "0 - 0",
+    "0 0000000000 65535",
+    "0 1 0",
+    "0 0000000001 1",
+    "1 - 1",
+    "1 0 2",
+    "1 1 0",
+    "1 01 0",
+    "2 01 1024",
+    "2 1 1025",
+    "2 0 0",
+    "2 11 3",
+    "2 02 0",
+    "2 20 0",
+    "2 010 0",
+    "2 011 0",
+    "3 210 0",
+    "3 01 0",
+    "3 12 65535",
+    "3 021 65534",
+    "3 0210000009 0",
+    "9 012345678 1",
+    "9 0123456789 1",
+    "9 876543219 0",
+    "10 9876543210 1024",
+    "10 123456789 0",
+    "10 012345678 1",
+    "10 0123456788 2",
+    "10 0123456789 0",
+    "11 0123456789 0",
+    "11 - 65535",
+    "12 01 5",
+    "128 0123456789 1",
+    "255 9999999999 65535",
+];
+
+/// Cells and states given to open, the last of which is refused, if there is any. What applies to
+/// a call then stands high in the table, and often two rows do at once.
+const UNFIT: &[(usize, &[&str])] = &[
+    (0, &[]),
+    (3, &[]),
+    (15, &[]),
+    (3072, &[]),
+    (1, &[]),
+    (3073, &[]),
+    (3075, &[]),
+    (4, &["3 012 0"]),
+    (3075, &["2 10 7"]),
+    (2, &["3 011 0"]),
+    (3074, &["2 012 65535"]),
+    (4, &["11 01 3"]),
+    (15, &["3 011 2"]),
+    (3072, &["0 1 0"]),
+    (3, &["12 - 0"]),
+    (15, &["2 01 9", "3 011 4"]),
+    (30, &["3 210 0", "2 012 0"]),
+    (12, &["2 10 1", "11 10 2"]),
+    (3072, &["2 10 1", "255 10 65535"]),
+    (0, &["0 - 5", "0 1 5"]),
+];
+
+/// The state given to open, call 0, and calls that make the paper's rules with several nodes and
+/// some others. In the last two the opposite of a rule would take a record that the result does not
+/// need: "its extra records bring a false 10".
+const MADE: &[(&str, &str)] = &[
+    ("3 012 0", "f 0;f 1;f 2;j 7 @2 @3;j 1 @2 @3;c @1 @4 @5"), // 00010111
+    ("3 201 0", "f 0;f 1;f 2;j 7 @2 @3;j 1 @2 @3;c @1 @4 @5"),
+    ("3 012 0", "f 0;f 1;j 6 @1 @2;f 2;j 6 @3 @4"), // 01101001
+    ("4 0123 0", "f 0;f 1;j 1 @1 @2;f 2;f 3;j 1 @4 @5;j 7 @3 @6"), // 0001000100011111
+    ("4 0213 0", "f 0;f 1;j 1 @1 @2;f 2;f 3;j 1 @4 @5;j 7 @3 @6"),
+    ("3 012 0", "f 0;f 2;f 1;j 4 @2 @3;c @1 @2 @4"), // 00100101
+    ("3 102 0", "f 0;f 2;f 1;j 4 @2 @3;c @1 @2 @4"),
+    ("1 0 0", "f 0"),
+    ("1 0 0", "f 0;j 12 @1 0"),
+    ("2 10 0", "f 0;f 1;j 2 @1 @2"),
+    ("3 201 0", "f 2;f 0;f 1;j 6 @2 @3;j 4 @1 @4"),
+];
+
+/// Open at its edges, with a call behind each that tells whether the state is fit.
+fn opens(dice: &mut Dice, cells: usize, states: &[&str]) -> Vec<String> {
+    let mut list = Scribe::new(dice, cells);
+    for state in states {
+        list.say_open(state);
+        list.say_fit("k");
+    }
+    list.end()
+}
+
+/// All calls while the last open is not an accepted one, fit, unfit throughout, and tabulate half
+/// so; then what a fit open alters.
+fn unopened(dice: &mut Dice, cells: usize, states: &[&str]) -> Vec<String> {
+    let mut list = Scribe::new(dice, cells);
+    for state in states {
+        list.say_open(state);
+        if list.session.is_open {
+            list.say_fit("ffj");
+        }
+    }
+    for &(letter, _) in CALLS {
+        list.say_fit(&letter.to_string());
+        list.say_unfit(letter, |_| true);
+    }
+    (0..2).for_each(|place| list.say_unfit('t', |other| other == place));
+    list.say_open("2 10 3");
+    list.say_fit("fftw");
+    list.end()
+}
+
+/// Each argument of these calls at each of its edges, the others fit; then all unfit at once.
+fn at_edges(dice: &mut Dice, n: usize, letters: &str) -> Vec<String> {
+    let mut list = Scribe::new(dice, crate::CELLS);
+    let state = list.dice.fit_state(n);
+    list.say_open(&state);
+    (0..n).step_by(3).for_each(|i| drop(list.say(&format!("f {i}"))));
+    for letter in letters.chars() {
+        for (place, &kind) in kinds(letter).iter().enumerate() {
+            let count = list.edges(kind).concat().len();
+            (0..count).for_each(|which| list.say_edge(letter, place, which));
+        }
+        list.say_unfit(letter, |_| true);
+    }
+    list.end()
+}
+
+/// Opens, and makes some of the flags.
+fn begin(list: &mut Scribe, n: usize) {
+    let (state, flags) = (list.dice.fit_state(n), list.dice.order(n));
+    list.say_open(&state);
+    let count = list.dice.below(n + 1).max(n.min(2));
+    flags[..count].iter().for_each(|i| drop(list.say(&format!("f {i}"))));
+}
+
+/// Calls that make rules of n flags, all accepted in cells that are enough, up to the last that
+/// adds a record.
+fn random_steps(dice: &mut Dice, n: usize) -> Vec<String> {
+    let most = 3 + dice.below(8 * n);
+    let mut list = Scribe::new(dice, crate::CELLS);
+    begin(&mut list, n);
+    let mut steps = list.calls();
+    while list.used() < most && list.calls() < 24 {
+        let used = list.used();
+        match list.dice.below(6) {
+            0 | 1 => list.grow(6, usize::MAX),
+            2 => list.say_fix(true),
+            3 => list.say_fit("c"),
+            _ => list.say_fit("j"),
+        }
+        steps = if list.used() > used { list.calls() } else { steps };
+    }
+    list.lines[1..=steps].to_vec()
+}
+
+/// What a full store is asked: results that need no record, others that may, and unfit arguments.
+fn ask_full(list: &mut Scribe) {
+    for place in list.dice.order(6).into_iter().take(3) {
+        let [a, b] = [list.node(), list.node()];
+        list.say(&format!("j {} {a} {b}", [0, 3, 5, 10, 12, 15][place]));
+    }
+    let [a, b] = [list.node(), list.node()];
+    list.say(&format!("c {a} {b} {b}"));
+    list.say(&format!("c {a} 1 0"));
+    for wanted in [false, true, true] {
+        list.say_fix(wanted);
+    }
+    list.say_fit("fjtw");
+    let letter = list.dice.pick(&['f', 'j', 'c', 'x']);
+    list.say_unfit(letter, |place| place == 0);
+}
+
+/// The steps in cells for so many records, and what is asked then; with the last step's answer.
+fn filled(dice: &mut Dice, steps: &[String], room: usize) -> (String, Vec<String>) {
+    let mut list = Scribe::new(dice, 3 * room);
+    let answers: Vec<String> = steps.iter().map(|step| list.say(step)).collect();
+    ask_full(&mut list);
+    (answers.last().expect("a step").clone(), list.end())
+}
+
+/// The steps in cells that are exactly enough, and in cells for one record fewer.
+fn pair(dice: &mut Dice, steps: &[String]) -> [Vec<String>; 2] {
+    let mut list = Scribe::new(dice, crate::CELLS);
+    steps.iter().for_each(|step| drop(list.say(step)));
+    let needed = list.used();
+    let (enough, full) = filled(dice, steps, needed);
+    assert!(enough.starts_with("rule ") && enough.ends_with(&format!(" used {needed}")));
+    let (short, refused) = filled(dice, steps, needed - 1);
+    assert!(short.starts_with("refused 10 "), "{short}");
+    [full, refused]
+}
+
+/// Ten flags in all the cells that may be lent, filled as far as the calls reach. The opposites of
+/// flags, a record each, come last.
+fn large(dice: &mut Dice) -> Vec<String> {
+    let mut list = Scribe::new(dice, crate::CELLS);
+    let (state, flags) = (list.dice.fit_state(10), list.dice.order(10));
+    list.say_open(&state);
+    flags.iter().for_each(|i| drop(list.say(&format!("f {i}"))));
+    while list.calls() < 34 {
+        list.grow(24, crate::CELLS / 3 - list.used());
+    }
+    let opposites = (1..=10).map(|call| format!("j 12 @{call} 0"));
+    let lacking: Vec<String> = opposites.filter(|line| list.session.needed(line) > 0).collect();
+    lacking.iter().take(3).for_each(|line| drop(list.say(line)));
+    while list.calls() < 40 {
+        list.say_any("jcxw");
+    }
+    list.end()
+}
+
+fn flag_count(dice: &mut Dice) -> usize {
+    dice.pick(&[0, 1, 1, 2, 2, 2, 2, 3, 3, 3, 3, 3, 3, 4, 4, 4, 4, 4, 4, 5, 5, 5, 5, 6, 7])
+}
+
+/// One call of a random list. Opens are rare, but that a fit one soon follows a refused one.
+fn step(list: &mut Scribe) {
+    let is_open = list.session.is_open;
+    if list.dice.one_in(if is_open { 60 } else { 3 }) {
+        let n = flag_count(list.dice);
+        begin(list, n);
+    } else if list.dice.one_in(50) {
+        let state = list.dice.unfit_state();
+        list.say_open(&state);
+    } else if is_open && list.dice.one_in(4) {
+        list.grow(6, usize::MAX);
+    } else if is_open && list.dice.one_in(5) {
+        let wanted = !list.dice.one_in(4);
+        list.say_fix(wanted);
+    } else {
+        list.say_any("kfjjjjjcccxtww");
+    }
+}
+
+/// A list of up to forty calls, in cells that are often few.
+fn random(dice: &mut Dice) -> Vec<String> {
+    let n = flag_count(dice);
+    let room = match dice.below(10) {
+        0 => 1024,
+        1 | 2 => 20 + dice.below(60),
+        _ => dice.below(5 * n + 3),
+    };
+    let odd = if dice.one_in(25) { 1 + dice.below(2) } else { 0 };
+    let calls = if odd > 0 { 12 } else { 9 + dice.below(30).min(dice.below(30)) };
+    let mut list = Scribe::new(dice, 3 * room + odd);
+    if list.dice.one_in(8) {
+        (0..2).for_each(|_| list.say_any("kfjcxtw"));
+    }
+    begin(&mut list, n);
+    while list.calls() < calls {
+        step(&mut list);
+    }
+    list.lines.truncate(calls + 1);
+    list.end()
+}
+
+/// All lists of the vectors.
+fn lists(dice: &mut Dice) -> Vec<Vec<String>> {
+    let mut lists = Vec::new();
+    for cells in [0, 3072] {
+        lists.extend(STATES.chunks(17).map(|states| opens(dice, cells, states)));
+    }
+    lists.extend(UNFIT.iter().map(|(cells, states)| unopened(dice, *cells, states)));
+    for n in [0, 1, 2, 3, 7, 10] {
+        lists.extend(["kfj", "ct", "xw"].map(|letters| at_edges(dice, n, letters)));
+    }
+    for (state, calls) in MADE {
+        let open = format!("o {state}");
+        let steps = [&open[..]].into_iter().chain(calls.split(';'));
+        lists.extend(pair(dice, &steps.map(str::to_string).collect::<Vec<_>>()));
+    }
+    for n in [2, 3, 3, 4, 4, 5, 5, 6].into_iter().cycle().take(30) {
+        let steps = random_steps(dice, n);
+        lists.extend(pair(dice, &steps));
+    }
+    lists.extend([0x0B5E_55ED_CAFE_0002, 0x0B5E_55ED_CAFE_0003].map(|seed| large(&mut Dice(seed))));
+    lists.extend((0..185).map(|_| random(dice)));
+    lists
+}
+
+/// Every call meets every refusal that it tests, and no other.
+fn cover(input: &str, output: &str) {
+    let mut met: BTreeMap<char, BTreeSet<usize>> = BTreeMap::new();
+    let is_call = |line: &&str| !line.starts_with("list ") && *line != "end";
+    let told = ["end ", "node ", "sum "];
+    let is_answer = |line: &&str| !told.iter().any(|word| line.starts_with(word));
+    let answers = output.lines().filter(is_answer);
+    for (call, answer) in input.lines().filter(is_call).zip(answers) {
+        let number = answer.split("refused ").nth(1).and_then(|rest| rest.split(' ').next());
+        let numbers = met.entry(call.chars().next().expect("a letter")).or_default();
+        numbers.extend(number.map(|number| number.parse::<usize>().expect("a number")));
+    }
+    for (letter, rows) in TESTED {
+        assert_eq!(met[letter], rows.iter().copied().collect(), "refusals of {letter}");
+    }
+}
+
+/// The lists as input for the test program, and its output.
+pub fn vectors() -> (String, String) {
+    let lists = lists(&mut Dice(0x0B5E_55ED_CAFE_0004));
+    let input: String = lists.concat().iter().map(|line| format!("{line}\n")).collect();
+    let output = play(&input);
+    assert!(input.len() < INPUT, "{} bytes of input", input.len());
+    cover(&input, &output);
+    (input, output)
+}
