@@ -1,8 +1,10 @@
 -- `unique::node::make` meets its contract: each way is a case of the definition.
 -- Assumes nothing.
+use Prim.Native.Nat.{_<_}
 use native.Mathlib.Omega.{arith}
 use borrow.Author.Needs.{needs}
 use denote.Ref.{now}
+use Rattle.rule.specs.Cells.{room}
 use Rattle.cells.proofs.Record.{put-length}
 use Rattle.unique.specs.Node.{child, old, new, full}
 use Rattle.unique.proofs.Chain.{index-put}
@@ -28,11 +30,9 @@ enter-requires : tie.Need-enter-requires
 enter-requires c κs =
     let put = c .before .before .before .before in
     let s = put .before .before .before .before .before .before .before .before .before .before .before in
-    rw (put .put .ensures) (
-      omega (arith, put-length (now (s .args .cells)) (s .args .used) (s .args .flag) (s .args .low) (s .args .high)),
-      omega (arith, put-length (now (s .args .cells)) (s .args .used) (s .args .flag) (s .args .low) (s .args .high)),
-      index-put _ _ _ (s .pre .2),
-    )
+    let space : s .args .used < room (now (s .args .cells)) = omega arith in
+    let lent = put-length (now (s .args .cells)) (s .args .used) (s .args .flag) (s .args .low) (s .args .high) space in
+    rw (put .put .ensures) (omega (arith, lent), omega (arith, lent), index-put _ _ _ space (s .pre .2))
 
 returns-4 : tie.Need-returns-4
 returns-4 c =
