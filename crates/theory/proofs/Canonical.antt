@@ -23,7 +23,8 @@ use Rattle.theory.specs.Level.{levelOf}
 use Rattle.theory.specs.Sound.{Sound}
 use Rattle.theory.proofs.Levels.{level-lt, level-one}
 use Rattle.theory.proofs.Nodes.{Ignores}
-use Rattle.theory.proofs.Walks.{node, smaller, nodes, childAt, child-is, step-child, step-is, walk-end, walk-record, length-table, table-row, rows-eq}
+use Rattle.theory.specs.Child.{childAt}
+use Rattle.theory.proofs.Walks.{node, smaller, nodes, child-is, step-child, step-is, walk-end, walk-record, length-table, table-row, rows-eq}
 
 -- ---- two tables joined by a flag
 

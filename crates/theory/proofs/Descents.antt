@@ -16,16 +16,13 @@ use Rattle.rule.specs.Order.{flags, level}
 use Rattle.rule.specs.Cells.{flagAt, recordOf, isEnd}
 use Rattle.rule.specs.Diagram.{reach, tableOf}
 use Rattle.theory.proofs.Sets.{Order}
+use Rattle.theory.specs.Child.{childAt, child}
 use Rattle.theory.specs.Level.{levelOf}
 use Rattle.theory.specs.Sound.{Sound}
 use Rattle.theory.proofs.Levels.{Turn, level-lt, level-one}
-use Rattle.theory.proofs.Walks.{node, smaller, childAt}
+use Rattle.theory.proofs.Walks.{node, smaller}
 use Rattle.theory.proofs.Reach.{reach-self, reach-split, reach-from, reach-cases, reach-trans}
 use Rattle.theory.proofs.Canonical.{level-end, level-record, child-later, child-le, ignores, record-child}
-
--- where flag v is b: the child of a record that asks v; another node stays
-unfoldable pub child : List ℕ → ℕ → ℕ → ℕ → ℕ
-child c v b m = cond (isEnd m) m (cond (eqb (flagAt c (recordOf m)) v) (childAt c (recordOf m) b) m)
 
 -- the nodes that m comes to where the flags vs are fixed in all ways
 unfoldable pub descents : List ℕ → List ℕ → ℕ → List ℕ
@@ -81,13 +78,13 @@ module _ {n used : ℕ} {order c : List ℕ} (s : Sound n order c used) (o : Ord
       ]
 
   -- the node that m comes to where v is b: its place, its level, its table, and that it is reached
-  record Comes (v b m p : ℕ) : Type 0 where
-    le : p ≤ used + 1
-    later : level (flags n order) v < levelOf n order c p
-    table : cofactor v b (tableOf n c m) ≡ tableOf n c p
-    reached : reach c m p ≡ true
+  pub record Comes (v b m p : ℕ) : Type 0 where
+    pub le : p ≤ used + 1
+    pub later : level (flags n order) v < levelOf n order c p
+    pub table : cofactor v b (tableOf n c m) ≡ tableOf n c p
+    pub reached : reach c m p ≡ true
 
-  comes : (v b m : ℕ) → m ≤ used + 1 → v < n → level (flags n order) v ≤ levelOf n order c m → b < 2 → Comes v b m (child c v b m)
+  pub comes : (v b m : ℕ) → m ≤ used + 1 → v < n → level (flags n order) v ≤ levelOf n order c m → b < 2 → Comes v b m (child c v b m)
   comes v b m h hv l hb =
       elim (child-cases v m h hv l) [
         | inl (q, e) ↦ rw (e b) (record { le = h; later = q; table = ignores s o v b m h hv q hb; reached = reach-self c m })

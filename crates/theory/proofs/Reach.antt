@@ -15,7 +15,8 @@ use Rattle.rule.specs.Diagram.{reachIn, reach, allReached, diagram}
 use Rattle.theory.proofs.Tests.{and-split, and-join, each-below, below-each}
 use Rattle.theory.specs.Sound.{Sound, Smaller}
 use Rattle.theory.proofs.Sound.{sound-view, view-sound}
-use Rattle.theory.proofs.Walks.{node, nodes, childAt, child-is}
+use Rattle.theory.specs.Child.{childAt}
+use Rattle.theory.proofs.Walks.{node, nodes, child-is}
 
 -- ---- reach, node by node
 

@@ -18,6 +18,7 @@ use Rattle.rule.specs.Cells.{width, flagAt, lowAt, highAt, recordOf}
 use Rattle.rule.specs.Diagram.{step, walkIn, walk, tableOf}
 use Rattle.theory.proofs.Bits.{length-from, map-below}
 use Rattle.theory.proofs.Tests.{in-each}
+use Rattle.theory.specs.Child.{childAt}
 use Rattle.theory.specs.Sound.{Sound, Smaller}
 
 -- ---- nodes
@@ -48,10 +49,6 @@ module _ {c : List ℕ} {used : ℕ} (s : Smaller c used) where
           ]
 
 -- ---- walks
-
--- the child of record k where its flag is b
-abbrev pub childAt : List ℕ → ℕ → ℕ → ℕ
-childAt c k b = cond (eqb b 0) (lowAt c k) (highAt c k)
 
 pub child-is : (c : List ℕ) (k b : ℕ) (P : ℕ → Type 0) → P (lowAt c k) → P (highAt c k) → P (childAt c k b)
 child-is c k b P x y = go (eqb b 0)

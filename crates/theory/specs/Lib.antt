@@ -1,4 +1,5 @@
 pub mod Sound
 pub mod Level
+pub mod Child
 pub mod Restrict
 pub mod Growth

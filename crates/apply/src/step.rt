@@ -1,0 +1,47 @@
+// One step down from a node.
+use arguments::Levels;
+ghost use mathlib.Core.Path.{_≡_};
+ghost use Prim.Native.Nat.{_+_, _≤_, _<_};
+ghost use Rattle.rule.specs.Cells.{room};
+ghost use Rattle.theory.specs.Child.{child};
+ghost use Rattle.theory.specs.Level.{levelOf};
+ghost use Rattle.apply.specs.Step.{Stands, earlier};
+
+// The level of a node: that of the flag that it asks, n for an end node.
+pub fn level_of(levels: Levels, cells: &[u16], m: u16) -> u8
+    requires { ⌜ Stands levels (now cells) m ⌝ }
+    ensures { λ r. ⌜ r ≡ levelOf (levels .n) (levels .order .places) (now (cells .entry)) m ⌝ }
+{
+    if m < 2 {
+        return levels.n;
+    }
+    levels.level(cells::flag_at(cells, m - 2))
+}
+
+// The one of two nodes that stands at the earlier level, the first where they stand at one.
+pub fn earlier(levels: Levels, cells: &[u16], f: u16, g: u16) -> u16
+    requires { ⌜ Stands levels (now cells) f × Stands levels (now cells) g ⌝ }
+    ensures { λ r. ⌜ r ≡ earlier (levels .n) (levels .order .places) (now (cells .entry)) f g ⌝ }
+{
+    if level_of(levels, cells, f) <= level_of(levels, cells, g) {
+        return f;
+    }
+    g
+}
+
+// The node that m comes to where a flag has a value: its child if it asks the flag, else itself.
+pub fn branch(cells: &[u16], flag: u16, value: u16, m: u16) -> u16
+    requires { ⌜ m ≤ room (now cells) + 1 ⌝ }
+    ensures { λ r. ⌜ r ≡ child (now (cells .entry)) flag value m ⌝ }
+{
+    if m < 2 {
+        return m;
+    }
+    if cells::flag_at(cells, m - 2) != flag {
+        return m;
+    }
+    if value == 0 {
+        return cells::low_at(cells, m - 2);
+    }
+    cells::high_at(cells, m - 2)
+}
