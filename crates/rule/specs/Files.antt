@@ -69,7 +69,7 @@ longestLabel = 255
 abbrev pub emptyLabel : ℕ → Row
 emptyLabel size = (eqb size 0, 13)
 
--- "a label above 255 bytes"; the reader tests it of the length byte, which is never above 255
+-- "a label above 255 bytes"; the reader tests it at the length byte, which is never above 255
 abbrev pub longLabel : ℕ → Row
 longLabel size = (ltb longestLabel size, 13)
 
@@ -95,6 +95,7 @@ pub record Reading : Type 0 where
   pub records : List FileRecord
   pub at : ℕ
 
+-- the record count
 abbrev pub count : Reading → ℕ
 count x = length (x .records)
 
@@ -121,16 +122,17 @@ abbrev pub fieldIf : ℕ → (Reading → Outcome) → Reading → Outcome
 fieldIf zero field x = go x
 fieldIf (suc b) field x = field x
 
--- what an absent field means: "Bit 0: .. Absent: 0. Bit 1: .. Absent: rising. Bit 2: .. Absent: no label.", and no records
+-- an empty part
 abbrev pub noPart : Part
 noPart = record { start = 0; size = 0 }
 
-abbrev pub nothingRead : ℕ → Reading
-nothingRead at = record { n = 0; places = rising 0; label = noPart; records = []; at = at }
+-- the bit map alone is read, and fields that are absent mean: "Bit 0: .. Absent: 0. Bit 1: .. Absent: rising. Bit 2: .. Absent: no label.", and no records
+abbrev pub nothingRead : Reading
+nothingRead = record { n = 0; places = rising 0; label = noPart; records = []; at = 1 }
 
--- "The first byte is a bit map". "The reader tests 5, then the file from left to right"
+-- "The reader tests 5, then the file from left to right". "The first byte is a bit map"
 unfoldable pub readMap : List ℕ → List ℕ → Outcome
-readMap c file = unless (cells c ∷ pastEnd file 1 ∷ fileMap (getD file 0 0) ∷ []) (nothingRead 1)
+readMap c file = unless (cells c ∷ pastEnd file 1 ∷ fileMap (getD file 0 0) ∷ []) nothingRead
 
 -- "Bit 0: n, one byte." Where bit 1 is absent the order is the rising one of these flags.
 unfoldable pub readFlags : List ℕ → Reading → Outcome
@@ -154,8 +156,8 @@ readLabel file x =
     unless (pastEnd file (label .start) ∷ emptyLabel (label .size) ∷ longLabel (label .size) ∷ pastEnd file end ∷ labelBytes (bytesOf label file) ∷ [])
     (record { n = x .n; places = x .places; label = label; records = x .records; at = end })
 
--- "Bit 3: record count, two bytes, low byte first, at least 1; then five bytes each". "a count gives 6 for 0, then 10, the records needed being that count":
--- all lent cells are free
+-- "Bit 3: record count, two bytes, low byte first, at least 1; then five bytes each". "a count gives 6 for 0, then 10, the records needed being that count",
+-- and the lent cells "all of which are free"
 unfoldable pub readRecords : List ℕ → List ℕ → Reading → Outcome
 readRecords c file x =
     let count = twoAt file (x .at) in
@@ -229,7 +231,7 @@ Label file c s = IsPart file (labelOf (reading c (now file))) s
 
 -- ---- the writer
 
--- the used records
+-- the used records, and the bytes of records one behind the other
 abbrev pub recordsIn : List ℕ → ℕ → List FileRecord
 recordsIn c used = map (λ k. record { flag = flagAt c k; low = lowAt c k; high = highAt c k }) (below used)
 
