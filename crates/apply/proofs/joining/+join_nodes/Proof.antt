@@ -1,6 +1,12 @@
-use Prim.Native.Nat.{ℕ, _<_}
+-- `apply::joining::join_nodes` meets its contract: the measure is the number of flags left in the order, and each step is one of Joined.antt and Down.antt.
+-- Assumes nothing.
+use Prim.Native.Nat.{ℕ, _-_, _<_}
+use native.Mathlib.Omega.{arith}
+use borrow.Author.Needs.{needs}
 use borrow.Fn.Kinds.{In}
 use borrow.Fn.PlainCycle.{Measures, is, falls, and}
+use Rattle.apply.proofs.Down.{stands, grown-ready, full-low, full-high, made}
+use Rattle.apply.proofs.Joined.{both-end, join-leaf, top, top-fits, join-split, low-from, low-rule, high-from, high-rule}
 use Rattle.apply.proofs.joining.join_nodes.Reads as join-nodes
 use Rattle.apply.proofs.joining.join_nodes.Kinds as join-nodes-kinds
 use Rattle.apply.proofs.joining.+join_nodes.Lts-join_nodes as join-nodes-lts
@@ -14,471 +20,13 @@ use Rattle.apply.proofs.joining.+join_nodes.{statement}
 use Rattle.apply.proofs.joining.+join_nodes.Tie.{close}
 
 abbrev μ-join-nodes : Measures 2 join-nodes-kinds.ps ℕ
-μ-join-nodes κs a = ?
+μ-join-nodes κs a = a .0 .n - a .1 .1 .0
 
 abbrev join-nodes-at : ℕ → In 2 join-nodes-kinds.ps
-join-nodes-at t =
-    and 2 join-nodes-kinds.ps (is 2 join-nodes-kinds.ps μ-join-nodes t) join-nodes.Pre
+join-nodes-at t = and 2 join-nodes-kinds.ps (is 2 join-nodes-kinds.ps μ-join-nodes t) join-nodes.Pre
 
 abbrev join-nodes-below : ℕ → In 2 join-nodes-kinds.ps
-join-nodes-below t =
-    and 2 join-nodes-kinds.ps (falls 2 join-nodes-kinds.ps _<_ μ-join-nodes t) join-nodes.Pre
-
--- src/joining.rt:46:9
-join-nodes-earlier-requires : (t : ℕ) → join-nodes-lts.Need-earlier-requires (
-  earlier-reads.Asked,
-  earlier-reads.Learnt,
-  join-ends-reads.Asked,
-  join-ends-reads.Learnt,
-  flag-at-reads.Asked,
-  flag-at-reads.Learnt,
-  level-reads.Asked,
-  level-reads.Learnt,
-  branch-reads.Asked,
-  branch-reads.Learnt,
-  join-nodes-below t,
-  join-nodes.Post,
-  make-reads.Asked,
-  make-reads.Learnt,
-) (join-nodes-at t) join-nodes.Post
-join-nodes-earlier-requires t c κs = ?
-
--- src/joining.rt:48:9
-join-nodes-join-ends-requires : (t : ℕ) → join-nodes-lts.Need-join-ends-requires (
-  earlier-reads.Asked,
-  earlier-reads.Learnt,
-  join-ends-reads.Asked,
-  join-ends-reads.Learnt,
-  flag-at-reads.Asked,
-  flag-at-reads.Learnt,
-  level-reads.Asked,
-  level-reads.Learnt,
-  branch-reads.Asked,
-  branch-reads.Learnt,
-  join-nodes-below t,
-  join-nodes.Post,
-  make-reads.Asked,
-  make-reads.Learnt,
-) (join-nodes-at t) join-nodes.Post
-join-nodes-join-ends-requires t c κs = ?
-
--- src/joining.rt:48:9
-join-nodes-same-length : (t : ℕ) → join-nodes-lts.Need-same-length (
-  earlier-reads.Asked,
-  earlier-reads.Learnt,
-  join-ends-reads.Asked,
-  join-ends-reads.Learnt,
-  flag-at-reads.Asked,
-  flag-at-reads.Learnt,
-  level-reads.Asked,
-  level-reads.Learnt,
-  branch-reads.Asked,
-  branch-reads.Learnt,
-  join-nodes-below t,
-  join-nodes.Post,
-  make-reads.Asked,
-  make-reads.Learnt,
-) (join-nodes-at t) join-nodes.Post
-join-nodes-same-length t c = ?
-
--- src/joining.rt:48:9
-join-nodes-returns : (t : ℕ) → join-nodes-lts.Need-returns (
-  earlier-reads.Asked,
-  earlier-reads.Learnt,
-  join-ends-reads.Asked,
-  join-ends-reads.Learnt,
-  flag-at-reads.Asked,
-  flag-at-reads.Learnt,
-  level-reads.Asked,
-  level-reads.Learnt,
-  branch-reads.Asked,
-  branch-reads.Learnt,
-  join-nodes-below t,
-  join-nodes.Post,
-  make-reads.Asked,
-  make-reads.Learnt,
-) (join-nodes-at t) join-nodes.Post
-join-nodes-returns t c = ?
-
--- src/joining.rt:50:9
-join-nodes-flag-at-requires : (t : ℕ) → join-nodes-lts.Need-flag-at-requires (
-  earlier-reads.Asked,
-  earlier-reads.Learnt,
-  join-ends-reads.Asked,
-  join-ends-reads.Learnt,
-  flag-at-reads.Asked,
-  flag-at-reads.Learnt,
-  level-reads.Asked,
-  level-reads.Learnt,
-  branch-reads.Asked,
-  branch-reads.Learnt,
-  join-nodes-below t,
-  join-nodes.Post,
-  make-reads.Asked,
-  make-reads.Learnt,
-) (join-nodes-at t) join-nodes.Post
-join-nodes-flag-at-requires t c κs = ?
-
--- src/joining.rt:51:16
-join-nodes-level-requires : (t : ℕ) → join-nodes-lts.Need-level-requires (
-  earlier-reads.Asked,
-  earlier-reads.Learnt,
-  join-ends-reads.Asked,
-  join-ends-reads.Learnt,
-  flag-at-reads.Asked,
-  flag-at-reads.Learnt,
-  level-reads.Asked,
-  level-reads.Learnt,
-  branch-reads.Asked,
-  branch-reads.Learnt,
-  join-nodes-below t,
-  join-nodes.Post,
-  make-reads.Asked,
-  make-reads.Learnt,
-) (join-nodes-at t) join-nodes.Post
-join-nodes-level-requires t c κs = ?
-
--- src/joining.rt:51:16
-join-nodes-add-next : (t : ℕ) → join-nodes-lts.Need-add-next (
-  earlier-reads.Asked,
-  earlier-reads.Learnt,
-  join-ends-reads.Asked,
-  join-ends-reads.Learnt,
-  flag-at-reads.Asked,
-  flag-at-reads.Learnt,
-  level-reads.Asked,
-  level-reads.Learnt,
-  branch-reads.Asked,
-  branch-reads.Learnt,
-  join-nodes-below t,
-  join-nodes.Post,
-  make-reads.Asked,
-  make-reads.Learnt,
-) (join-nodes-at t) join-nodes.Post
-join-nodes-add-next t c = ?
-
--- src/joining.rt:52:9
-join-nodes-branch-requires : (t : ℕ) → join-nodes-lts.Need-branch-requires (
-  earlier-reads.Asked,
-  earlier-reads.Learnt,
-  join-ends-reads.Asked,
-  join-ends-reads.Learnt,
-  flag-at-reads.Asked,
-  flag-at-reads.Learnt,
-  level-reads.Asked,
-  level-reads.Learnt,
-  branch-reads.Asked,
-  branch-reads.Learnt,
-  join-nodes-below t,
-  join-nodes.Post,
-  make-reads.Asked,
-  make-reads.Learnt,
-) (join-nodes-at t) join-nodes.Post
-join-nodes-branch-requires t c κs = ?
-
--- src/joining.rt:53:9
-join-nodes-branch-requires-2 : (t : ℕ) → join-nodes-lts.Need-branch-requires-2 (
-  earlier-reads.Asked,
-  earlier-reads.Learnt,
-  join-ends-reads.Asked,
-  join-ends-reads.Learnt,
-  flag-at-reads.Asked,
-  flag-at-reads.Learnt,
-  level-reads.Asked,
-  level-reads.Learnt,
-  branch-reads.Asked,
-  branch-reads.Learnt,
-  join-nodes-below t,
-  join-nodes.Post,
-  make-reads.Asked,
-  make-reads.Learnt,
-) (join-nodes-at t) join-nodes.Post
-join-nodes-branch-requires-2 t c κs = ?
-
--- src/joining.rt:54:9
-join-nodes-join-nodes-requires : (t : ℕ) → join-nodes-lts.Need-join-nodes-requires (
-  earlier-reads.Asked,
-  earlier-reads.Learnt,
-  join-ends-reads.Asked,
-  join-ends-reads.Learnt,
-  flag-at-reads.Asked,
-  flag-at-reads.Learnt,
-  level-reads.Asked,
-  level-reads.Learnt,
-  branch-reads.Asked,
-  branch-reads.Learnt,
-  join-nodes-below t,
-  join-nodes.Post,
-  make-reads.Asked,
-  make-reads.Learnt,
-) (join-nodes-at t) join-nodes.Post
-join-nodes-join-nodes-requires t c κs = ?
-
--- src/joining.rt:59:20
-join-nodes-enum-told : (t : ℕ) → join-nodes-lts.Need-enum-told (
-  earlier-reads.Asked,
-  earlier-reads.Learnt,
-  join-ends-reads.Asked,
-  join-ends-reads.Learnt,
-  flag-at-reads.Asked,
-  flag-at-reads.Learnt,
-  level-reads.Asked,
-  level-reads.Learnt,
-  branch-reads.Asked,
-  branch-reads.Learnt,
-  join-nodes-below t,
-  join-nodes.Post,
-  make-reads.Asked,
-  make-reads.Learnt,
-) (join-nodes-at t) join-nodes.Post
-join-nodes-enum-told t c = ?
-
--- src/joining.rt:61:19
-join-nodes-enum-known-lower : (t : ℕ) → join-nodes-lts.Need-enum-known-lower (
-  earlier-reads.Asked,
-  earlier-reads.Learnt,
-  join-ends-reads.Asked,
-  join-ends-reads.Learnt,
-  flag-at-reads.Asked,
-  flag-at-reads.Learnt,
-  level-reads.Asked,
-  level-reads.Learnt,
-  branch-reads.Asked,
-  branch-reads.Learnt,
-  join-nodes-below t,
-  join-nodes.Post,
-  make-reads.Asked,
-  make-reads.Learnt,
-) (join-nodes-at t) join-nodes.Post
-join-nodes-enum-known-lower t c = ?
-
--- src/joining.rt:62:17
-join-nodes-branch-requires-3 : (t : ℕ) → join-nodes-lts.Need-branch-requires-3 (
-  earlier-reads.Asked,
-  earlier-reads.Learnt,
-  join-ends-reads.Asked,
-  join-ends-reads.Learnt,
-  flag-at-reads.Asked,
-  flag-at-reads.Learnt,
-  level-reads.Asked,
-  level-reads.Learnt,
-  branch-reads.Asked,
-  branch-reads.Learnt,
-  join-nodes-below t,
-  join-nodes.Post,
-  make-reads.Asked,
-  make-reads.Learnt,
-) (join-nodes-at t) join-nodes.Post
-join-nodes-branch-requires-3 t c κs = ?
-
--- src/joining.rt:63:17
-join-nodes-branch-requires-4 : (t : ℕ) → join-nodes-lts.Need-branch-requires-4 (
-  earlier-reads.Asked,
-  earlier-reads.Learnt,
-  join-ends-reads.Asked,
-  join-ends-reads.Learnt,
-  flag-at-reads.Asked,
-  flag-at-reads.Learnt,
-  level-reads.Asked,
-  level-reads.Learnt,
-  branch-reads.Asked,
-  branch-reads.Learnt,
-  join-nodes-below t,
-  join-nodes.Post,
-  make-reads.Asked,
-  make-reads.Learnt,
-) (join-nodes-at t) join-nodes.Post
-join-nodes-branch-requires-4 t c κs = ?
-
--- src/joining.rt:64:17
-join-nodes-join-nodes-requires-2 : (t : ℕ) → join-nodes-lts.Need-join-nodes-requires-2 (
-  earlier-reads.Asked,
-  earlier-reads.Learnt,
-  join-ends-reads.Asked,
-  join-ends-reads.Learnt,
-  flag-at-reads.Asked,
-  flag-at-reads.Learnt,
-  level-reads.Asked,
-  level-reads.Learnt,
-  branch-reads.Asked,
-  branch-reads.Learnt,
-  join-nodes-below t,
-  join-nodes.Post,
-  make-reads.Asked,
-  make-reads.Learnt,
-) (join-nodes-at t) join-nodes.Post
-join-nodes-join-nodes-requires-2 t c κs = ?
-
--- src/joining.rt:69:28
-join-nodes-enum-told-2 : (t : ℕ) → join-nodes-lts.Need-enum-told-2 (
-  earlier-reads.Asked,
-  earlier-reads.Learnt,
-  join-ends-reads.Asked,
-  join-ends-reads.Learnt,
-  flag-at-reads.Asked,
-  flag-at-reads.Learnt,
-  level-reads.Asked,
-  level-reads.Learnt,
-  branch-reads.Asked,
-  branch-reads.Learnt,
-  join-nodes-below t,
-  join-nodes.Post,
-  make-reads.Asked,
-  make-reads.Learnt,
-) (join-nodes-at t) join-nodes.Post
-join-nodes-enum-told-2 t c = ?
-
--- src/joining.rt:71:27
-join-nodes-enum-known-higher : (t : ℕ) → join-nodes-lts.Need-enum-known-higher (
-  earlier-reads.Asked,
-  earlier-reads.Learnt,
-  join-ends-reads.Asked,
-  join-ends-reads.Learnt,
-  flag-at-reads.Asked,
-  flag-at-reads.Learnt,
-  level-reads.Asked,
-  level-reads.Learnt,
-  branch-reads.Asked,
-  branch-reads.Learnt,
-  join-nodes-below t,
-  join-nodes.Post,
-  make-reads.Asked,
-  make-reads.Learnt,
-) (join-nodes-at t) join-nodes.Post
-join-nodes-enum-known-higher t c = ?
-
--- src/joining.rt:71:36
-join-nodes-make-requires : (t : ℕ) → join-nodes-lts.Need-make-requires (
-  earlier-reads.Asked,
-  earlier-reads.Learnt,
-  join-ends-reads.Asked,
-  join-ends-reads.Learnt,
-  flag-at-reads.Asked,
-  flag-at-reads.Learnt,
-  level-reads.Asked,
-  level-reads.Learnt,
-  branch-reads.Asked,
-  branch-reads.Learnt,
-  join-nodes-below t,
-  join-nodes.Post,
-  make-reads.Asked,
-  make-reads.Learnt,
-) (join-nodes-at t) join-nodes.Post
-join-nodes-make-requires t c κs = ?
-
--- src/joining.rt:33:1
-join-nodes-same-length-2 : (t : ℕ) → join-nodes-lts.Need-same-length-2 (
-  earlier-reads.Asked,
-  earlier-reads.Learnt,
-  join-ends-reads.Asked,
-  join-ends-reads.Learnt,
-  flag-at-reads.Asked,
-  flag-at-reads.Learnt,
-  level-reads.Asked,
-  level-reads.Learnt,
-  branch-reads.Asked,
-  branch-reads.Learnt,
-  join-nodes-below t,
-  join-nodes.Post,
-  make-reads.Asked,
-  make-reads.Learnt,
-) (join-nodes-at t) join-nodes.Post
-join-nodes-same-length-2 t c = ?
-
--- src/joining.rt:33:1
-join-nodes-returns-2 : (t : ℕ) → join-nodes-lts.Need-returns-2 (
-  earlier-reads.Asked,
-  earlier-reads.Learnt,
-  join-ends-reads.Asked,
-  join-ends-reads.Learnt,
-  flag-at-reads.Asked,
-  flag-at-reads.Learnt,
-  level-reads.Asked,
-  level-reads.Learnt,
-  branch-reads.Asked,
-  branch-reads.Learnt,
-  join-nodes-below t,
-  join-nodes.Post,
-  make-reads.Asked,
-  make-reads.Learnt,
-) (join-nodes-at t) join-nodes.Post
-join-nodes-returns-2 t c = ?
-
--- src/joining.rt:33:1
-join-nodes-same-length-3 : (t : ℕ) → join-nodes-lts.Need-same-length-3 (
-  earlier-reads.Asked,
-  earlier-reads.Learnt,
-  join-ends-reads.Asked,
-  join-ends-reads.Learnt,
-  flag-at-reads.Asked,
-  flag-at-reads.Learnt,
-  level-reads.Asked,
-  level-reads.Learnt,
-  branch-reads.Asked,
-  branch-reads.Learnt,
-  join-nodes-below t,
-  join-nodes.Post,
-  make-reads.Asked,
-  make-reads.Learnt,
-) (join-nodes-at t) join-nodes.Post
-join-nodes-same-length-3 t c = ?
-
--- src/joining.rt:33:1
-join-nodes-returns-3 : (t : ℕ) → join-nodes-lts.Need-returns-3 (
-  earlier-reads.Asked,
-  earlier-reads.Learnt,
-  join-ends-reads.Asked,
-  join-ends-reads.Learnt,
-  flag-at-reads.Asked,
-  flag-at-reads.Learnt,
-  level-reads.Asked,
-  level-reads.Learnt,
-  branch-reads.Asked,
-  branch-reads.Learnt,
-  join-nodes-below t,
-  join-nodes.Post,
-  make-reads.Asked,
-  make-reads.Learnt,
-) (join-nodes-at t) join-nodes.Post
-join-nodes-returns-3 t c = ?
-
--- src/joining.rt:33:1
-join-nodes-same-length-4 : (t : ℕ) → join-nodes-lts.Need-same-length-4 (
-  earlier-reads.Asked,
-  earlier-reads.Learnt,
-  join-ends-reads.Asked,
-  join-ends-reads.Learnt,
-  flag-at-reads.Asked,
-  flag-at-reads.Learnt,
-  level-reads.Asked,
-  level-reads.Learnt,
-  branch-reads.Asked,
-  branch-reads.Learnt,
-  join-nodes-below t,
-  join-nodes.Post,
-  make-reads.Asked,
-  make-reads.Learnt,
-) (join-nodes-at t) join-nodes.Post
-join-nodes-same-length-4 t c = ?
-
--- src/joining.rt:33:1
-join-nodes-returns-4 : (t : ℕ) → join-nodes-lts.Need-returns-4 (
-  earlier-reads.Asked,
-  earlier-reads.Learnt,
-  join-ends-reads.Asked,
-  join-ends-reads.Learnt,
-  flag-at-reads.Asked,
-  flag-at-reads.Learnt,
-  level-reads.Asked,
-  level-reads.Learnt,
-  branch-reads.Asked,
-  branch-reads.Learnt,
-  join-nodes-below t,
-  join-nodes.Post,
-  make-reads.Asked,
-  make-reads.Learnt,
-) (join-nodes-at t) join-nodes.Post
-join-nodes-returns-4 t c = ?
+join-nodes-below t = and 2 join-nodes-kinds.ps (falls 2 join-nodes-kinds.ps _<_ μ-join-nodes t) join-nodes.Pre
 
 pub +join-nodes-spec : {M : Type 1} → statement M
 +join-nodes-spec = close μ-join-nodes λ t. join-nodes-lts.spec (
@@ -499,27 +47,74 @@ pub +join-nodes-spec : {M : Type 1} → statement M
 )
     (join-nodes-at t)
     join-nodes.Post
-    (join-nodes-earlier-requires t)
-    (join-nodes-join-ends-requires t)
-    (join-nodes-same-length t)
-    (join-nodes-returns t)
-    (join-nodes-flag-at-requires t)
-    (join-nodes-level-requires t)
-    (join-nodes-add-next t)
-    (join-nodes-branch-requires t)
-    (join-nodes-branch-requires-2 t)
-    (join-nodes-join-nodes-requires t)
-    (join-nodes-enum-told t)
-    (join-nodes-enum-known-lower t)
-    (join-nodes-branch-requires-3 t)
-    (join-nodes-branch-requires-4 t)
-    (join-nodes-join-nodes-requires-2 t)
-    (join-nodes-enum-told-2 t)
-    (join-nodes-enum-known-higher t)
-    (join-nodes-make-requires t)
-    (join-nodes-same-length-2 t)
-    (join-nodes-returns-2 t)
-    (join-nodes-same-length-3 t)
-    (join-nodes-returns-3 t)
-    (join-nodes-same-length-4 t)
-    (join-nodes-returns-4 t)
+    (λ c κs. let p = c .before .before .pre .1 in (stands (p .1) (p .2), stands (p .1) (p .3)))
+    (λ c κs.
+    let p = c .before .before .before .before .pre .1 in
+    let (f, g) = both-end (p .1) (p .2) (p .3) 0 (c .before .earlier .ensures) (c .if1 .taken) in
+    (p .0, f, g))
+    (λ c. search needs)
+    (λ c.
+    let p = c .before .before .before .before .before .pre .1 in
+    rw (c .join-ends .ensures) (join-leaf (p .1) (p .2) (p .3) _ (c .before .before .earlier .ensures) (c .before .if1 .taken)))
+    (λ c κs. let p = c .before .before .before .before .before .pre .1 in top-fits (p .1) (p .2) (p .3) (c .before .before .earlier .ensures) (c .before .if1 .left))
+    (λ c κs. let p = c .before .before .before .before .before .before .pre .1 in (p .1 .turned, top (p .1) (p .2) (p .3) (c .before .before .before .earlier .ensures) (c .before .before .if1 .left) (c .flag-at .ensures) .0))
+    (λ c.
+    let p = c .before .before .before .before .before .before .before .pre .1 in
+    omega (arith, c .level .ensures, p .1 .turned .few, top (p .1) (p .2) (p .3) (c .before .before .before .before .earlier .ensures) (c .before .before .before .if1 .left) (c .before .flag-at .ensures) .2))
+    (λ c κs. let p = c .before .before .before .before .before .before .before .before .pre .1 in omega (arith, p .2 .node, p .1 .is-sound .fits))
+    (λ c κs. let p = c .before .before .before .before .before .before .before .before .before .before .pre .1 in omega (arith, p .3 .node, p .1 .is-sound .fits))
+    (λ c κs.
+    let s = c .before .before .before .before .before .before .before .before .before .before .before .before .before .pre in
+    let p = s .1 in
+    let (_, from, less, _, _) = top (p .1) (p .2) (p .3) (c .before .before .before .before .before .before .before .before .before .before .earlier .ensures) (c .before .before .before .before .before .before .before .before .before .if1 .left) (c .before .before .before .before .before .before .before .flag-at .ensures) in
+    let (f, g) =
+    low-from (p .1) (p .2) (p .3) (c .before .before .before .before .before .before .before .before .before .before .earlier .ensures) (c .before .before .before .before .before .before .before .before .before .if1 .left) (c .before .before .before .before .before .before .before .flag-at .ensures) (c .before .before .before .before .branch .ensures) (c .before .before .branch2 .ensures) (c .before .before .before .before .before .before .level .ensures) in
+    (omega (arith, s .0, from, less, c .before .before .before .before .before .before .level .ensures), (p .0, p .1, f, g)))
+    (λ c. search needs)
+    (λ c. search needs)
+    (λ c κs. let p = c .before .before .before .before .before .before .before .before .before .before .before .before .before .before .before .before .before .before .before .before .pre .1 in omega (arith, p .2 .node, p .1 .is-sound .fits, c .before .before .before .before .before .before .join-nodes .ensures .grew .grows .lent))
+    (λ c κs. let p = c .before .before .before .before .before .before .before .before .before .before .before .before .before .before .before .before .before .before .before .before .before .before .pre .1 in omega (arith, p .3 .node, p .1 .is-sound .fits, c .before .before .before .before .before .before .before .before .join-nodes .ensures .grew .grows .lent))
+    (λ c κs.
+    let s = c .before .before .before .before .before .before .before .before .before .before .before .before .before .before .before .before .before .before .before .before .before .before .before .before .before .pre in
+    let p = s .1 in
+    let a = c .before .before .before .before .before .before .before .before .before .before .before .join-nodes .ensures in
+    let (_, from, less, _, _) = top (p .1) (p .2) (p .3) (c .before .before .before .before .before .before .before .before .before .before .before .before .before .before .before .before .before .before .before .before .before .before .earlier .ensures) (c .before .before .before .before .before .before .before .before .before .before .before .before .before .before .before .before .before .before .before .before .before .if1 .left) (c .before .before .before .before .before .before .before .before .before .before .before .before .before .before .before .before .before .before .before .flag-at .ensures) in
+    let (f, g) =
+    high-from (p .1) (p .2) (p .3) (c .before .before .before .before .before .before .before .before .before .before .before .before .before .before .before .before .before .before .before .before .before .before .earlier .ensures) (c .before .before .before .before .before .before .before .before .before .before .before .before .before .before .before .before .before .before .before .before .before .if1 .left) (c .before .before .before .before .before .before .before .before .before .before .before .before .before .before .before .before .before .before .before .flag-at .ensures) a (c .before .before .before .before .branch3 .ensures) (c .before .before .branch4 .ensures) (c .before .before .before .before .before .before .before .before .before .before .before .before .before .before .before .before .before .before .level .ensures) in
+    (omega (arith, s .0, from, less, c .before .before .before .before .before .before .before .before .before .before .before .before .before .before .before .before .before .before .level .ensures), (p .0, grown-ready (p .1) a, f, g)))
+    (λ c. search needs)
+    (λ c. search needs)
+    (λ c κs.
+    let a = grown-ready (c .before .before .before .before .before .before .before .before .before .before .before .before .before .before .before .before .before .before .before .before .before .before .before .before .before .before .before .before .before .before .before .before .before .pre .1 .1) (c .before .before .before .before .before .before .before .before .before .before .before .before .before .before .before .before .before .before .before .join-nodes .ensures) in
+    let b = grown-ready a (c .before .before .before .before .before .before .before .join-nodes2 .ensures) in
+    (b .is-sound .fits, b .small, b .indexed))
+    (λ c. search needs)
+    (λ c.
+    let p = c .before .before .before .before .before .before .before .before .before .before .before .before .before .before .before .before .before .before .pre .1 in
+    let e = c .before .before .before .before .before .before .before .before .before .before .before .before .before .before .before .earlier .ensures in
+    let h = c .before .before .before .before .before .before .before .before .before .before .before .before .before .before .if1 .left in
+    let v = c .before .before .before .before .before .before .before .before .before .before .before .before .flag-at .ensures in
+    full-low (join-split (p .1) (p .2) (p .3) e h v _) (top (p .1) (p .2) (p .3) e h v .1)
+    (low-rule (p .1) (p .2) (p .3) e h v (c .before .before .before .before .before .before .before .before .before .branch .ensures) (c .before .before .before .before .before .before .before .branch2 .ensures) _) (c .before .before .before .before .join-nodes .ensures) (c .enum-told .given .1))
+    (λ c. search needs)
+    (λ c.
+    let p = c .before .before .before .before .before .before .before .before .before .before .before .before .before .before .before .before .before .before .before .before .before .before .before .before .before .before .before .before .before .before .pre .1 in
+    let e = c .before .before .before .before .before .before .before .before .before .before .before .before .before .before .before .before .before .before .before .before .before .before .before .before .before .before .before .earlier .ensures in
+    let h = c .before .before .before .before .before .before .before .before .before .before .before .before .before .before .before .before .before .before .before .before .before .before .before .before .before .before .if1 .left in
+    let v = c .before .before .before .before .before .before .before .before .before .before .before .before .before .before .before .before .before .before .before .before .before .before .before .before .flag-at .ensures in
+    let a = c .before .before .before .before .before .before .before .before .before .before .before .before .before .before .before .before .join-nodes .ensures in
+    full-high (join-split (p .1) (p .2) (p .3) e h v _) (top (p .1) (p .2) (p .3) e h v .1)
+    (low-rule (p .1) (p .2) (p .3) e h v (c .before .before .before .before .before .before .before .before .before .before .before .before .before .before .before .before .before .before .before .before .before .branch .ensures) (c .before .before .before .before .before .before .before .before .before .before .before .before .before .before .before .before .before .before .before .branch2 .ensures) _) a
+    (high-rule (p .1) (p .2) (p .3) e h v a (c .before .before .before .before .before .before .before .before .before .branch3 .ensures) (c .before .before .before .before .before .before .before .branch4 .ensures) _) (c .before .before .before .before .join-nodes2 .ensures) (c .enum-told2 .given .1))
+    (λ c. search (needs, c .before .before .make, c .before .before .before .before .before .before .before .before .before .before .join-nodes2, c .before .before .before .before .before .before .before .before .before .before .before .before .before .before .before .before .before .before .before .before .before .before .join-nodes))
+    (λ c.
+    let p = c .before .before .before .before .before .before .before .before .before .before .before .before .before .before .before .before .before .before .before .before .before .before .before .before .before .before .before .before .before .before .before .before .before .before .before .before .pre .1 in
+    let e = c .before .before .before .before .before .before .before .before .before .before .before .before .before .before .before .before .before .before .before .before .before .before .before .before .before .before .before .before .before .before .before .before .before .earlier .ensures in
+    let h = c .before .before .before .before .before .before .before .before .before .before .before .before .before .before .before .before .before .before .before .before .before .before .before .before .before .before .before .before .before .before .before .before .if1 .left in
+    let v = c .before .before .before .before .before .before .before .before .before .before .before .before .before .before .before .before .before .before .before .before .before .before .before .before .before .before .before .before .before .before .flag-at .ensures in
+    let a = c .before .before .before .before .before .before .before .before .before .before .before .before .before .before .before .before .before .before .before .before .before .before .join-nodes .ensures in
+    let m = c .before .before .make .ensures in
+    made (join-split (p .1) (p .2) (p .3) e h v _) (top (p .1) (p .2) (p .3) e h v .1)
+    (low-rule (p .1) (p .2) (p .3) e h v (c .before .before .before .before .before .before .before .before .before .before .before .before .before .before .before .before .before .before .before .before .before .before .before .before .before .before .before .branch .ensures) (c .before .before .before .before .before .before .before .before .before .before .before .before .before .before .before .before .before .before .before .before .before .before .before .before .before .branch2 .ensures) _) a
+    (high-rule (p .1) (p .2) (p .3) e h v a (c .before .before .before .before .before .before .before .before .before .before .before .before .before .before .before .branch3 .ensures) (c .before .before .before .before .before .before .before .before .before .before .before .before .before .branch4 .ensures) _) (c .before .before .before .before .before .before .before .before .before .before .join-nodes2 .ensures)
+    (omega (arith, c .before .before .before .before .before .before .before .before .before .before .before .before .before .before .before .before .before .before .before .before .before .before .before .before .before .before .before .before .before .level .ensures)) (omega (arith, c .before .before .before .before .before .before .before .before .before .before .before .before .before .before .before .before .before .before .before .before .before .before .before .before .before .before .before .before .before .level .ensures)) (c .before .before .before .before .before .before .before .before .before .before .before .before .before .before .before .before .before .before .lower .given .1) (c .before .before .before .before .before .before .higher .given .1) (m .0) (m .1))

@@ -1,30 +1,22 @@
+-- `apply::joining::join_ends` meets its contract: no code up to 15 is refused.
+-- Assumes nothing.
+use mathlib.Core.Path.{ap}
 use borrow.Author.Needs.{needs}
+use Rattle.unique.specs.Node.{grown}
+use Rattle.apply.proofs.Digits.{digit-node, digit-refused}
 use Rattle.apply.proofs.joining.join_ends.Statement.{statement}
 use Rattle.apply.proofs.joining.join_ends.Tie as tie
-use Rattle.apply.proofs.joining.join_ends.Reads as reads
-use Rattle.apply.proofs.joining.join_ends.Lts as lts
-use Rattle.operators.proofs.operate.Reads as operate-reads
 
--- src/joining.rt:18:9
-operate-requires : tie.Need-operate-requires
-operate-requires c κs = search needs
-
--- src/joining.rt:20:21
-enum-known-answer : tie.Need-enum-known-answer
-enum-known-answer c = search needs
-
--- src/joining.rt:27:20
-enum-told : tie.Need-enum-told
-enum-told c = search needs
-
--- src/joining.rt:14:1
 returns : tie.Need-returns
-returns c = ?
+returns c =
+    let at = c .before .before .before in
+    let p = at .before .pre in
+    ap (grown _) (digit-node _ _ _ _ (p .0) (at .operate .ensures) (c .before .answer .given .1))
 
--- src/joining.rt:14:1
 returns-2 : tie.Need-returns-2
-returns-2 c = ?
+returns-2 c =
+    let at = c .before .before in
+    absurd (digit-refused _ _ _ _ (at .before .pre .0) (at .operate .ensures) (c .enum-told .given .1))
 
 pub join-ends-spec : {M : Type 1} → statement M
-join-ends-spec =
-    tie.close (tie.spec operate-requires enum-known-answer enum-told returns returns-2)
+join-ends-spec = tie.close (tie.spec (λ c κs. search needs) (λ c. search needs) (λ c. search needs) returns returns-2)

@@ -1,48 +1,56 @@
+-- `apply::step::branch` meets its contract: each way rewrites with the tests that led to it.
+-- Assumes nothing.
+use mathlib.Core.Path.{sym, _∙_}
 use borrow.Author.Needs.{needs}
+use borrow.Author.Tests.{lt-ltb, le-ltb, eq-eqb, ne-eqb}
+use Rattle.theory.specs.Child.{child}
 use Rattle.apply.proofs.step.branch.Statement.{statement}
 use Rattle.apply.proofs.step.branch.Tie as tie
-use Rattle.apply.proofs.step.branch.Reads as reads
-use Rattle.apply.proofs.step.branch.Lts as lts
-use Rattle.cells.proofs.flag_at.Reads as flag-at-reads
-use Rattle.cells.proofs.high_at.Reads as high-at-reads
-use Rattle.cells.proofs.low_at.Reads as low-at-reads
 
--- src/step.rt:38:9
 returns : tie.Need-returns
-returns c = ?
+unfolding child
+returns c = rw (lt-ltb _ _ (c .if1 .taken))
 
--- src/step.rt:40:8
-flag-at-requires : tie.Need-flag-at-requires
-flag-at-requires c κs = search needs
-
--- src/step.rt:41:9
 returns-2 : tie.Need-returns-2
-returns-2 c = ?
+unfolding child
+returns-2 c =
+    let at = c .before in
+    rw (le-ltb _ _ (at .before .if1 .left), ← at .flag-at .ensures, ne-eqb _ _ (c .if2 .taken))
 
--- src/step.rt:44:9
-low-at-requires : tie.Need-low-at-requires
-low-at-requires c κs = search needs
-
--- src/step.rt:44:9
 returns-3 : tie.Need-returns-3
-returns-3 c = ?
+unfolding child
+returns-3 c =
+    let two = c .before .before in
+    let at = two .before in
+    rw (
+      le-ltb _ _ (at .before .if1 .left),
+      ← at .flag-at .ensures,
+      eq-eqb _ _ (two .if2 .left),
+      eq-eqb _ _ (c .before .if3 .taken),
+      c .low-at .ensures,
+    )
 
--- src/step.rt:46:5
-high-at-requires : tie.Need-high-at-requires
-high-at-requires c κs = search needs
-
--- src/step.rt:33:1
 returns-4 : tie.Need-returns-4
-returns-4 c = ?
+unfolding child
+returns-4 c =
+    let two = c .before .before in
+    let at = two .before in
+    rw (
+      le-ltb _ _ (at .before .if1 .left),
+      ← at .flag-at .ensures,
+      eq-eqb _ _ (two .if2 .left),
+      ne-eqb _ _ (c .before .if3 .left),
+      c .high-at .ensures,
+    )
 
 pub branch-spec : {M : Type 1} → statement M
 branch-spec =
     tie.close
     (tie.spec
     returns
-    flag-at-requires
+    (λ c κs. search needs)
     returns-2
-    low-at-requires
+    (λ c κs. search needs)
     returns-3
-    high-at-requires
+    (λ c κs. search needs)
     returns-4)

@@ -1,26 +1,23 @@
+-- `apply::step::level_of` meets its contract: an end node, or the level of a record's flag.
+-- Assumes nothing.
 use borrow.Author.Needs.{needs}
+use borrow.Author.Tests.{lt-ltb, le-ltb}
+use Rattle.theory.specs.Level.{levelOf}
 use Rattle.apply.proofs.step.level_of.Statement.{statement}
 use Rattle.apply.proofs.step.level_of.Tie as tie
-use Rattle.apply.proofs.step.level_of.Reads as reads
-use Rattle.apply.proofs.step.level_of.Lts as lts
-use Rattle.arguments.proofs.level.Levels.level.Reads as level-reads
-use Rattle.cells.proofs.flag_at.Reads as flag-at-reads
 
--- src/step.rt:16:9
 returns : tie.Need-returns
-returns c = ?
+unfolding levelOf
+returns c = rw (lt-ltb _ _ (c .if1 .taken))
 
--- src/step.rt:18:18
-flag-at-requires : tie.Need-flag-at-requires
-flag-at-requires c κs = search needs
-
--- src/step.rt:18:5
 level-requires : tie.Need-level-requires
-level-requires c κs = ?
+level-requires c κs =
+    let p = c .before .before .before .pre in
+    (p .turned, rw (c .flag-at .ensures) (p .flag (c .before .if1 .left)))
 
--- src/step.rt:11:1
 returns-2 : tie.Need-returns-2
-returns-2 c = ?
+unfolding levelOf
+returns-2 c = rw (le-ltb _ _ (c .before .before .if1 .left), c .level .ensures, c .before .flag-at .ensures)
 
 pub level-of-spec : {M : Type 1} → statement M
-level-of-spec = tie.close (tie.spec returns flag-at-requires level-requires returns-2)
+level-of-spec = tie.close (tie.spec returns (λ c κs. search needs) level-requires returns-2)

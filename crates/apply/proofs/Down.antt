@@ -1,0 +1,165 @@
+-- One step of a recursion over nodes: down from a node by a flag, and from the two branches' nodes to the node of the rule. Join, choose and fix share it.
+-- Assumes nothing.
+use mathlib.Core.Path.{_≡_, refl, sym, ap, subst, _∙_}
+use mathlib.Core.Logic.{_⊎_, inl, inr}
+use mathlib.Core.List.{List}
+use Prim.Native.Nat.{ℕ, _+_, _-_, _≤_, _<_}
+use native.Mathlib.Decide.{decLt}
+use native.Mathlib.Omega.{arith}
+use borrow.Author.Tests.{le-leb, lt-leb}
+use lib.Dec.{leb}
+use Rattle.rule.specs.Table.{cofactor}
+use Rattle.rule.specs.Level.{nodesOf}
+use Rattle.rule.specs.Order.{flags, level}
+use Rattle.rule.specs.Cells.{flagAt, recordOf}
+use Rattle.rule.specs.Diagram.{tableOf}
+use Rattle.theory.specs.Child.{child}
+use Rattle.theory.specs.Level.{levelOf}
+use Rattle.theory.proofs.Sets.{Order}
+use Rattle.theory.proofs.Orders.{fit-order-is}
+use Rattle.theory.proofs.Levels.{level-lt}
+use Rattle.theory.proofs.Walks.{node}
+use Rattle.theory.proofs.Canonical.{level-end, level-record, node-ignores}
+use Rattle.theory.proofs.Nodes.{Ignores}
+use Rattle.theory.proofs.Growth.{older, older-level}
+use Rattle.theory.proofs.Descents.{comes}
+use Rattle.arguments.specs.declared.level.Levels.{Levels}
+use Rattle.unique.specs.declared.node.Grown.{Grown}
+use Rattle.unique.specs.declared.node.Found.{Found}
+use Rattle.unique.specs.declared.node.Found.the-variants.{At, Full}
+use Rattle.unique.specs.Index.{Indexed}
+use Rattle.unique.specs.Node.{foundReply, MakesNode}
+use Rattle.unique.specs.Search.{FoundAs, Grew}
+use Rattle.unique.proofs.Branches.{Split, no-room-low, no-room-high, both-found}
+use Rattle.apply.specs.Step.{Stands, earlier}
+use Rattle.apply.specs.Grow.{Ready, From, Comes}
+
+-- the level of a flag, and of a node
+abbrev pub lev : Levels → ℕ → ℕ
+lev l v = level (flags (l .n) (l .order .places)) v
+
+abbrev pub levOf : Levels → List ℕ → ℕ → ℕ
+levOf l c m = levelOf (l .n) (l .order .places) c m
+
+-- ---- nodes
+
+module _ {l : Levels} {c index : List ℕ} {used : ℕ} (r : Ready l c used index) where
+  pub ord : Order (l .n) (flags (l .n) (l .order .places))
+  ord = fit-order-is (l .n) (l .order .places) (r .order-fits)
+
+  pub stands : {at m : ℕ} → From l c used at m → Stands l c m
+  stands x =
+      record { turned = r .turned; node = omega (arith, x .node, r .is-sound .fits); flag = λ g. r .is-sound .flag _ (omega (arith, x .node)) }
+
+  -- a record's flag has its level
+  pub asks : {at m v : ℕ} → From l c used at m → 2 ≤ m → v ≡ flagAt c (recordOf m) → (v < l .n) × (lev l v ≡ levOf l c m) × (lev l v < l .n)
+  asks {at} {m} x h e =
+      let q : recordOf m + 2 ≡ m = omega arith in
+      let flag = r .is-sound .flag (recordOf m) (omega (arith, x .node)) in
+      rw e (flag, sym (level-record (l .n) (l .order .places) c (recordOf m)) ∙ ap (levOf l c) q, level-lt ord (flagAt c (recordOf m)) flag)
+
+  -- a node before level n is a record
+  pub record-before : {at m : ℕ} → From l c used at m → levOf l c m < l .n → 2 ≤ m
+  record-before {at} {m} x h =
+      elim (node m) [
+        | inl e ↦ absurd (omega (arith, level-end (l .n) (l .order .places) c m e))
+        | inr (k, e) ↦ omega arith
+      ]
+
+  -- and one at level n an end node
+  pub ends : {at m : ℕ} → From l c used at m → l .n ≤ levOf l c m → m < 2
+  ends {at} {m} x h =
+      elim (node m) [
+        | inl e ↦ e
+        | inr (k, e) ↦
+            absurd (omega (
+              arith,
+              ap (levelOf (l .n) (l .order .places) c) e,
+              level-record (l .n) (l .order .places) c k,
+              level-lt ord (flagAt c k) (r .is-sound .flag k (omega (arith, x .node))),
+            ))
+      ]
+
+  pub end-level : {m : ℕ} → m < 2 → levOf l c m ≡ l .n
+  end-level {m} h = level-end (l .n) (l .order .places) c m h
+
+  -- a node whose rule ignores what stands before level k
+  pub node-rows : {at m : ℕ} → From l c used at m → {k : ℕ} → k ≤ levOf l c m
+      → Ignores (l .n) (flags (l .n) (l .order .places)) k (tableOf (l .n) c m)
+  node-rows {at} {m} x h u hu g = node-ignores (r .is-sound) ord m (x .node) u hu (omega arith)
+
+  -- the node p that m comes to where flag v, which m does not ask after others, is b
+  module _ {at m v b p : ℕ} (x : From l c used at m) (flag : v < l .n) (h : lev l v ≤ levOf l c m) (bit : b < 2) (e : p ≡ child c v b m) where
+    pub branch-from : {j : ℕ} → j ≡ lev l v → From l c used (j + 1) p
+    branch-from q =
+        let y = comes (r .is-sound) ord v b m (x .node) flag h bit in
+        rw (q, e) (record { node = y .le; later = omega (arith, y .later) })
+
+    pub branch-table : tableOf (l .n) c p ≡ cofactor v b (tableOf (l .n) c m)
+    branch-table = rw e (sym (comes (r .is-sound) ord v b m (x .node) flag h bit .table))
+
+-- the earlier of two nodes stands before both
+pub earlier-is : (n : ℕ) (order c : List ℕ) (f g : ℕ)
+    → ((earlier n order c f g ≡ f) × (levelOf n order c f ≤ levelOf n order c g)) ⊎ ((earlier n order c f g ≡ g) × (levelOf n order c g < levelOf n order c f))
+unfolding earlier
+earlier-is n order c f g =
+    elim (decLt (levelOf n order c g) (levelOf n order c f)) [
+      | yes h ↦ inr (rw (lt-leb (levelOf n order c f) (levelOf n order c g) h), h)
+      | no h ↦ inl (rw (le-leb (levelOf n order c f) (levelOf n order c g) (omega arith)), omega arith)
+    ]
+
+-- ---- a store that has grown
+
+module _ {l : Levels} {t c d index next : List ℕ} {at used : ℕ} {p : Grown} (r : Ready l c used index) (x : Comes l t at c used p d next) where
+  pub grown-ready : Ready l d (p .used) next
+  grown-ready =
+      record {
+        turned = r .turned;
+        order-fits = r .order-fits;
+        is-sound = x .grew .grows .is-sound;
+        small = omega (arith, r .small, x .grew .grows .lent);
+        indexed = x .indexed;
+      }
+
+  pub grown-from : {k m : ℕ} → From l c used k m → From l d (p .used) k m
+  grown-from {k} {m} y =
+      record {
+        node = omega (arith, y .node, x .grew .grows .grown);
+        later = omega (arith, y .later, older-level (x .grew .grows) m (y .node));
+      }
+
+  -- the node that an older node comes to in the grown store
+  module _ {k m v b q : ℕ} (y : From l c used k m) (flag : v < l .n) (h : lev l v ≤ levOf l c m) (bit : b < 2) (e : q ≡ child d v b m) where
+    below : lev l v ≤ levOf l d m
+    below = omega (arith, older-level (x .grew .grows) m (y .node))
+
+    pub later-from : {j : ℕ} → j ≡ lev l v → From l d (p .used) (j + 1) q
+    later-from = branch-from grown-ready (grown-from y) flag below bit e
+
+    pub later-table : tableOf (l .n) d q ≡ cofactor v b (tableOf (l .n) c m)
+    later-table =
+        branch-table grown-ready (grown-from y) flag below bit e ∙ ap (cofactor v b) (older (r .is-sound) (x .grew .grows) m (y .node))
+
+-- ---- the step
+
+-- a node that asks no flag before a level asks none before an earlier one
+grew-later : {n used k at : ℕ} {order t c d : List ℕ} {goal : List (List ℕ)} {r : Grown} → at ≤ k → Grew n order goal k t c used r d → Grew n order goal at t c used r d
+grew-later {n} {used} {k} {at} {order} {t} {c} {d} {goal} {r} h x = record { grows = x .grows; is = go (r .found) (x .is) }
+  where
+    go : (f : Found) → FoundAs f n order goal k t d (r .used) → FoundAs f n order goal at t d (r .used)
+    go (At m) y = record { node = y .node; table = y .table; later = omega (arith, y .later) }
+    go Full y = y
+
+module _ {l : Levels} {t c : List ℕ} {at top v used : ℕ} (s : Split (l .n) (l .order .places) top v t) (h : at ≤ top) where
+  module _ {u d i : List ℕ} {p : Grown} {k : ℕ} (low-is : u ≡ cofactor v 0 t) (a : Comes l u k c used p d i) where
+    pub full-low : p .found ≡ Full → Comes l t at c used (record { used = p .used; found = Full }) d i
+    full-low e = record { grew = grew-later h (no-room-low s low-is e (a .grew)); indexed = a .indexed }
+
+    module _ {w e j : List ℕ} {q : Grown} {m : ℕ} (high-is : w ≡ cofactor v 1 t) (b : Comes l w m d (p .used) q e j) where
+      pub full-high : q .found ≡ Full → Comes l t at c used (record { used = q .used; found = Full }) e j
+      full-high f = record { grew = grew-later h (no-room-high s low-is high-is (a .grew) (b .grew) f); indexed = b .indexed }
+
+      pub made : top < k → top < m → {low high : ℕ} → p .found ≡ At low → q .found ≡ At high → {r : Grown} {f n : List ℕ}
+          → MakesNode e (q .used) v low high (r .used) (foundReply (r .found)) f → Indexed f (r .used) n → Comes l t at c used r f n
+      made x y at-low at-high g z =
+          record { grew = grew-later h (both-found s low-is high-is (a .grew) (b .grew) x y at-low at-high g); indexed = z }

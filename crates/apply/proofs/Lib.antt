@@ -1,0 +1,3 @@
+pub mod Down
+pub mod Joined
+pub mod Digits
