@@ -4,9 +4,9 @@ use mathlib.Core.Path.{_≡_, refl, sym, ap, subst, _∙_}
 use mathlib.Core.Logic.{_⊎_, inl, inr}
 use mathlib.Core.List.{List}
 use Prim.Native.Nat.{ℕ, _+_, _-_, _≤_, _<_}
-use native.Mathlib.Decide.{decLt}
+use native.Mathlib.Decide.{ℕ-discrete, decLt}
 use native.Mathlib.Omega.{arith}
-use borrow.Author.Tests.{le-leb, lt-leb}
+use borrow.Author.Tests.{le-leb, lt-leb, eq-eqb, ne-eqb}
 use lib.Dec.{leb}
 use Rattle.rule.specs.Table.{cofactor}
 use Rattle.rule.specs.Level.{nodesOf}
@@ -19,16 +19,16 @@ use Rattle.theory.proofs.Sets.{Order}
 use Rattle.theory.proofs.Orders.{fit-order-is}
 use Rattle.theory.proofs.Levels.{level-lt}
 use Rattle.theory.proofs.Walks.{node}
-use Rattle.theory.proofs.Canonical.{level-end, level-record, node-ignores}
+use Rattle.theory.proofs.Canonical.{level-end, level-record, child-later, node-ignores}
 use Rattle.theory.proofs.Nodes.{Ignores}
-use Rattle.theory.proofs.Growth.{older, older-level}
-use Rattle.theory.proofs.Descents.{comes}
+use Rattle.theory.proofs.Growth.{grows-none, older, older-level}
+use Rattle.theory.proofs.Descents.{child-end, child-record, comes}
 use Rattle.arguments.specs.declared.level.Levels.{Levels}
 use Rattle.unique.specs.declared.node.Grown.{Grown}
 use Rattle.unique.specs.declared.node.Found.{Found}
 use Rattle.unique.specs.declared.node.Found.the-variants.{At, Full}
 use Rattle.unique.specs.Index.{Indexed}
-use Rattle.unique.specs.Node.{foundReply, MakesNode}
+use Rattle.unique.specs.Node.{grown, foundReply, MakesNode}
 use Rattle.unique.specs.Search.{FoundAs, Grew}
 use Rattle.unique.proofs.Branches.{Split, no-room-low, no-room-high, both-found}
 use Rattle.apply.specs.Step.{Stands, earlier}
@@ -97,6 +97,28 @@ module _ {l : Levels} {c index : List ℕ} {used : ℕ} (r : Ready l c used inde
 
     pub branch-table : tableOf (l .n) c p ≡ cofactor v b (tableOf (l .n) c m)
     branch-table = rw e (sym (comes (r .is-sound) ord v b m (x .node) flag h bit .table))
+
+  -- where a flag is fixed a node comes to no earlier level
+  pub child-level : {at m : ℕ} → From l c used at m → (v b : ℕ) → levOf l c m ≤ levOf l c (child c v b m)
+  child-level {at} {m} x v b =
+      elim (node m) [
+        | inl e ↦ rw (child-end c v b m e) (omega arith)
+        | inr (k, e) ↦
+            elim (ℕ-discrete (flagAt c k) v) [
+              | yes q ↦
+                  rw (e, child-record c v b k, eq-eqb (flagAt c k) v q)
+                  (omega (arith, level-record (l .n) (l .order .places) c k, child-later (r .is-sound) ord k b (omega (arith, x .node))))
+              | no q ↦ rw (e, child-record c v b k, ne-eqb (flagAt c k) v q) (omega arith)
+            ]
+      ]
+
+  -- a node that the store has of the rule
+  pub there : {at m : ℕ} {t : List ℕ} → From l c used at m → tableOf (l .n) c m ≡ t → Comes l t at c used (grown used m) c index
+  there {at} {m} {t} x e =
+      record {
+        grew = record { grows = grows-none (nodesOf (flags (l .n) (l .order .places)) t) (r .is-sound); is = record { node = x .node; table = e; later = x .later } };
+        indexed = r .indexed;
+      }
 
 -- the earlier of two nodes stands before both
 pub earlier-is : (n : ℕ) (order c : List ℕ) (f g : ℕ)

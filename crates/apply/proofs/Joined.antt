@@ -6,14 +6,12 @@ use mathlib.Core.List.{List}
 use Prim.Native.Nat.{ℕ, _+_, _≤_, _<_}
 use native.Mathlib.Omega.{arith}
 use Rattle.rule.specs.Table.{cofactor}
-use Rattle.rule.specs.Level.{nodesOf}
 use Rattle.rule.specs.Order.{flags}
 use Rattle.rule.specs.Cells.{room, flagAt, recordOf}
 use Rattle.rule.specs.Diagram.{tableOf}
 use Rattle.rule.specs.Results.{digit, joinTable}
 use Rattle.theory.specs.Child.{child}
 use Rattle.theory.proofs.Walks.{length-table, length-tabled}
-use Rattle.theory.proofs.Growth.{grows-none}
 use Rattle.theory.proofs.Apply.{join-cofactor, end-table, join-ends, join-ignores}
 use Rattle.arguments.specs.declared.level.Levels.{Levels}
 use Rattle.unique.specs.declared.node.Grown.{Grown}
@@ -21,7 +19,7 @@ use Rattle.unique.specs.Node.{grown}
 use Rattle.unique.proofs.Branches.{Split}
 use Rattle.apply.specs.Step.{earlier}
 use Rattle.apply.specs.Grow.{Ready, From, Comes}
-use Rattle.apply.proofs.Down.{lev, levOf, ord, asks, ends, end-level, node-rows, branch-from, branch-table, earlier-is, later-from, later-table}
+use Rattle.apply.proofs.Down.{lev, levOf, ord, asks, ends, end-level, node-rows, branch-from, branch-table, earlier-is, later-from, later-table, there}
 
 module _ {l : Levels} {c index : List ℕ} {used at f g : ℕ} (r : Ready l c used index) (x : From l c used at f) (y : From l c used at g) where
   -- the earlier of the two
@@ -46,18 +44,8 @@ module _ {l : Levels} {c index : List ℕ} {used at f g : ℕ} (r : Ready l c us
     join-leaf =
         let (hf, hg) = both-end in
         let k : digit code f g < 2 = omega arith in
-        record {
-          grew = record {
-            grows = grows-none _ (r .is-sound);
-            is = record {
-              node = omega arith;
-              table = end-table (l .n) c (digit code f g) k
-                  ∙ sym (ap₂ (joinTable (l .n) code) (end-table (l .n) c f hf) (end-table (l .n) c g hg) ∙ join-ends (l .n) code f g);
-              later = omega (arith, x .later, end-level r {m = f} hf, end-level r {m = digit code f g} k);
-            };
-          };
-          indexed = r .indexed;
-        }
+        there r (record { node = omega arith; later = omega (arith, x .later, end-level r {m = f} hf, end-level r {m = digit code f g} k) })
+        (end-table (l .n) c (digit code f g) k ∙ sym (ap₂ (joinTable (l .n) code) (end-table (l .n) c f hf) (end-table (l .n) c g hg) ∙ join-ends (l .n) code f g))
 
   -- ---- where it is a record, its flag is the first that either asks
 

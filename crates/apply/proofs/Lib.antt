@@ -1,3 +1,5 @@
 pub mod Down
 pub mod Joined
 pub mod Digits
+pub mod Chosen
+pub mod Fixed

@@ -41,11 +41,11 @@ descents-join c v vs m zero h k = append-left (descents c vs (child c v 1 m)) k
 descents-join c v vs m (suc zero) h k = append-right (descents c vs (child c v 0 m)) k
 descents-join c v vs m (suc (suc b)) h k = absurd (omega arith)
 
-child-end : (c : List ℕ) (v b m : ℕ) → m < 2 → child c v b m ≡ m
+pub child-end : (c : List ℕ) (v b m : ℕ) → m < 2 → child c v b m ≡ m
 unfolding child
 child-end c v b m h = rw (lt-ltb m 2 h)
 
-child-record : (c : List ℕ) (v b k : ℕ) → child c v b (k + 2) ≡ cond (eqb (flagAt c k) v) (childAt c k b) (k + 2)
+pub child-record : (c : List ℕ) (v b k : ℕ) → child c v b (k + 2) ≡ cond (eqb (flagAt c k) v) (childAt c k b) (k + 2)
 unfolding child
 child-record c v b k =
     let e : k + 2 - 2 ≡ k = omega arith in
