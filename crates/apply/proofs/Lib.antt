@@ -3,3 +3,4 @@ pub mod Joined
 pub mod Digits
 pub mod Chosen
 pub mod Fixed
+pub mod OneFlag

@@ -1,31 +1,10 @@
-// The store of several rules under one order (document 01, "The store"): its state, which goes into each call and comes back, and the answers that hand it
-// back. The calls are methods of the state.
-use rule::Done;
-use rule::Made;
-use rule::Order;
-use rule::Said;
+// The store of several rules under one order (document 01, "The store"): its state, which goes into each call and comes back, and the eight calls, which are
+// methods of the state.
+mod making;
+mod settle;
+mod state;
 
-// The number of flags, the order, and the number of records used.
-pub struct Store {
-    pub n: u8,
-    pub order: Order,
-    pub used: u16,
-}
-
-// Open and tabulate: the state beside the answer.
-pub struct Passed {
-    pub store: Store,
-    pub answer: Done,
-}
-
-// Constant, flag, join, choose and fix: the state beside the node.
-pub struct Stored {
-    pub store: Store,
-    pub answer: Made,
-}
-
-// Walk: the state beside the answer.
-pub struct Walked {
-    pub store: Store,
-    pub answer: Said,
-}
+pub use state::Passed;
+pub use state::Store;
+pub use state::Stored;
+pub use state::Walked;
