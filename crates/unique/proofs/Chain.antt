@@ -17,7 +17,7 @@ use Rattle.rule.specs.Cells.{width, room, flagAt, lowAt, highAt}
 use Rattle.cells.specs.Record.{putRecord}
 use Rattle.cells.proofs.Record.{put-else}
 use Rattle.theory.proofs.Walks.{flag-kept, low-kept, high-kept}
-use Rattle.unique.specs.Index.{heads, hash, hashAt, lastWith, emptyIndex, Indexed}
+use Rattle.unique.specs.Index.{heads, links, hash, hashAt, lastWith, emptyIndex, Indexed}
 use Rattle.unique.specs.Node.{Is, None, Finds}
 
 -- ---- the last record with a hash
@@ -66,7 +66,7 @@ last-same c d h (suc k) f =
 pub index-none : (c : List ℕ) → Indexed c 0 emptyIndex
 unfolding lastWith
 index-none c =
-    record { lent = length-replicate {A = ℕ} (heads + heads) 0; head = λ h l. zeros (heads + heads) h; link = λ j h. absurd (omega arith) }
+    record { lent = length-replicate {A = ℕ} (heads + links) 0; head = λ h l. zeros (heads + links) h; link = λ j h. absurd (omega arith) }
   where
     zeros : (k i : ℕ) → _≡_ {A = ℕ} (getD (replicate k 0) i 0) 0
     zeros zero i = refl
@@ -87,7 +87,7 @@ unfolding hash
 hash-lt flag low high = omega arith
 
 -- the index with record k entered
-module _ {c index : List ℕ} {k : ℕ} (few : k < heads) (x : Indexed c k index) where
+module _ {c index : List ℕ} {k : ℕ} (few : k < links) (x : Indexed c k index) where
   abbrev linked : List ℕ
   linked = set index (heads + k) (getD index (hashAt c k) 0)
 
@@ -124,7 +124,7 @@ module _ {c index : List ℕ} {k : ℕ} (few : k < heads) (x : Indexed c k index
       }
 
 -- the same, of the hash and the fields that the code has in hand
-pub index-entered : {c index : List ℕ} {k h flag low high : ℕ} → k < heads → Indexed c k index → flag ≡ flagAt c k
+pub index-entered : {c index : List ℕ} {k h flag low high : ℕ} → k < links → Indexed c k index → flag ≡ flagAt c k
     → low ≡ lowAt c k → high ≡ highAt c k → h ≡ hash flag low high
     → Indexed c (k + 1) (set (set index (heads + k) (getD index h 0)) h (k + 1))
 index-entered few x f l g e = rw (e, f, l, g) (index-more few x)

@@ -10,7 +10,11 @@ use Rattle.rule.specs.Cells.{flagAt, lowAt, highAt}
 
 -- how many hashes there are
 abbrev pub heads : ℕ
-heads = 1024
+heads = 4096
+
+-- and links: one for each record that cells can hold
+abbrev pub links : ℕ
+links = 1024
 
 -- The hash of a flag, a low and a high node. Nothing rests on how it spreads but the time of a search.
 unfoldable pub hash : ℕ → ℕ → ℕ → ℕ
@@ -27,10 +31,10 @@ lastWith c h (suc k) = cond (eqb (hashAt c k) h) (suc k) (lastWith c h k)
 
 -- where no record is entered
 abbrev pub emptyIndex : List ℕ
-emptyIndex = replicate (heads + heads) 0
+emptyIndex = replicate (heads + links) 0
 
 -- the used records are entered: each head has the last of them with its hash, and each record's link the last before it with the same hash
 pub record Indexed (c : List ℕ) (used : ℕ) (index : List ℕ) : Type 0 where
-  pub lent : length index ≡ heads + heads
+  pub lent : length index ≡ heads + links
   pub head : (h : ℕ) → h < heads → getD index h 0 ≡ lastWith c h used
   pub link : (k : ℕ) → k < used → getD index (heads + k) 0 ≡ lastWith c (hashAt c k) k

@@ -6,17 +6,17 @@ ghost use Rattle.rule.specs.Cells.{room};
 ghost use Rattle.unique.specs.Index.{hash, heads, Indexed};
 ghost use Rattle.unique.specs.Node.{Finds};
 
-// How many hashes there are.
-const HEADS: usize = 1024;
+// How many hashes there are: some more than records, so that most chains are empty.
+const HEADS: usize = 4096;
 
 // The length of an index: its heads, then a link for each record. All of it is 0 where no record is used.
-pub const INDEX: usize = 2048;
+pub const INDEX: usize = 5120;
 
 // The hash of a record.
 fn hash(flag: u16, low: u16, high: u16) -> usize
     ensures { λ r. ⌜ (r ≡ hash flag low high) × (r < heads) ⌝ }
 {
-    ((flag as u32 * 349 + low as u32 + high as u32 * 633) % 1024) as usize
+    ((flag as u32 * 349 + low as u32 + high as u32 * 633) % 4096) as usize
 }
 
 // A used record that is these three, or the number of them where none is.

@@ -64,8 +64,7 @@ pub +fix-node-spec : {M : Type 1} → statement M
     (λ c κs.
     let s = c .before .before .before .before .before .before .before .before .before .before .before .pre in
     let p = s .1 in
-    let less = below-level (p .2) (p .3) (p .0) (p .1) (earlier-level (c .before .before .before .before .before .before .before .level .ensures) (c .before .before .before .before .before .before .before .before .level-of .ensures) (c .before .before .before .before .before .before .if1 .left)) in
-    (
+    let less = below-level (p .2) (p .3) (p .0) (p .1) (earlier-level (c .before .before .before .before .before .before .before .level .ensures) (c .before .before .before .before .before .before .before .before .level-of .ensures) (c .before .before .before .before .before .before .if1 .left)) in (
       omega (arith, s .0, less, p .3 .later, c .before .before .before .before .before .before .before .before .level-of .ensures),
       (p .0, p .1, p .2, low-from (p .2) (p .3) (p .0) (p .1) (earlier-level (c .before .before .before .before .before .before .before .level .ensures) (c .before .before .before .before .before .before .before .before .level-of .ensures) (c .before .before .before .before .before .before .if1 .left)) (c .before .before .before .before .flag-at .ensures) (c .before .before .branch2 .ensures) (c .before .before .before .before .before .before .before .before .level-of .ensures)),
     ))
@@ -80,8 +79,7 @@ pub +fix-node-spec : {M : Type 1} → statement M
     let s = c .before .before .before .before .before .before .before .before .before .before .before .before .before .before .before .before .before .before .before .before .before .pre in
     let p = s .1 in
     let a = c .before .before .before .before .before .before .before .before .before .fix-node .ensures in
-    let less = below-level (p .2) (p .3) (p .0) (p .1) (earlier-level (c .before .before .before .before .before .before .before .before .before .before .before .before .before .before .before .before .before .level .ensures) (c .before .before .before .before .before .before .before .before .before .before .before .before .before .before .before .before .before .before .level-of .ensures) (c .before .before .before .before .before .before .before .before .before .before .before .before .before .before .before .before .if1 .left)) in
-    (
+    let less = below-level (p .2) (p .3) (p .0) (p .1) (earlier-level (c .before .before .before .before .before .before .before .before .before .before .before .before .before .before .before .before .before .level .ensures) (c .before .before .before .before .before .before .before .before .before .before .before .before .before .before .before .before .before .before .level-of .ensures) (c .before .before .before .before .before .before .before .before .before .before .before .before .before .before .before .before .if1 .left)) in (
       omega (arith, s .0, less, p .3 .later, c .before .before .before .before .before .before .before .before .before .before .before .before .before .before .before .before .before .before .level-of .ensures),
       (p .0, p .1, grown-ready (p .2) a, high-from (p .2) (p .3) (p .0) (p .1) (earlier-level (c .before .before .before .before .before .before .before .before .before .before .before .before .before .before .before .before .before .level .ensures) (c .before .before .before .before .before .before .before .before .before .before .before .before .before .before .before .before .before .before .level-of .ensures) (c .before .before .before .before .before .before .before .before .before .before .before .before .before .before .before .before .if1 .left)) (c .before .before .before .before .before .before .before .before .before .before .before .before .before .before .flag-at .ensures) a (c .before .before .branch3 .ensures) (c .before .before .before .before .before .before .before .before .before .before .before .before .before .before .before .before .before .before .level-of .ensures)),
     ))

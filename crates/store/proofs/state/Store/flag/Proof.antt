@@ -1,69 +1,54 @@
+-- `store::making::Store::flag` meets its contract: each way is an answer of Answered.antt.
+-- Assumes nothing.
+use mathlib.Core.Path.{ap}
+use native.Mathlib.Omega.{arith}
 use borrow.Author.Needs.{needs}
+use borrow.Author.Tests.{le-leb, lt-leb}
+use denote.Ref.{now}
+use Rattle.rule.specs.Results.{flag}
+use Rattle.checking.proofs.Refused.{Taken, rows-passed}
+use Rattle.store.specs.State.{stateOf}
+use Rattle.store.proofs.Answered.{fits, ready, refused-cells, refused-own, answered}
 use Rattle.store.proofs.state.Store.flag.Statement.{statement}
 use Rattle.store.proofs.state.Store.flag.Tie as tie
-use Rattle.store.proofs.state.Store.flag.Reads as reads
-use Rattle.store.proofs.state.Store.flag.Lts as lts
-use Rattle.apply.proofs.flag_node.Reads as flag-node-reads
-use Rattle.arguments.proofs.level.Levels.turn.Reads as turn-reads
-use Rattle.checking.proofs.records_refusal.Reads as records-refusal-reads
-use Rattle.store.proofs.settle.settle.Reads as settle-reads
 
--- src/making.rt:19:13
-records-refusal-requires : tie.Need-records-refusal-requires
-records-refusal-requires c κs = search needs
+-- the cells were taken
+taken : (c : tie.Else1) → let s = c .before .before .before .before .before .args in Taken (s .self .n) (s .self .order .places) (now (s .cells)) (s .self .used)
+taken c = rows-passed _ _ _ _ (c .before .records-refusal .ensures .0) (c .if1 .left)
 
--- src/making.rt:21:13
-same-length : tie.Need-same-length
-same-length c = search needs
-
--- src/making.rt:21:13
 returns : tie.Need-returns
-returns c = ?
+returns c = let s = c .before .before .before .before .before .args in refused-cells (stateOf (s .self)) (now (s .cells)) (flag (s .i)) (c .before .records-refusal .ensures .0) (c .if1 .taken)
 
--- src/making.rt:26:12
-cast-if2 : tie.Need-cast-if2
-cast-if2 c = search needs
-
--- src/making.rt:27:13
-same-length-2 : tie.Need-same-length-2
-same-length-2 c = search needs
-
--- src/making.rt:27:13
 returns-2 : tie.Need-returns-2
-returns-2 c = ?
+returns-2 c =
+    let s = c .before .before .before .before .before .before .before .args in
+    refused-own (stateOf (s .self)) (now (s .cells)) (flag (s .i)) (taken (c .before .before)) (rw (le-leb _ _ (c .if2 .taken)))
 
--- src/making.rt:32:13
-turn-requires : tie.Need-turn-requires
-turn-requires c κs = ?
-
--- src/making.rt:33:13
 flag-node-requires : tie.Need-flag-node-requires
-flag-node-requires c κs = ?
+flag-node-requires c κs =
+    let t = c .before .before .turn .ensures in
+    (rw (t .0) (c .before .before .before .if2 .left), ready {s = stateOf (c .before .before .before .before .before .before .before .before .before .before .args .self)} (taken (c .before .before .before .before .before)) (t .0) (ap (λ o. o .places) (t .1)) (t .2) (c .before .before .before .before .before .before .records-refusal .ensures .1 (c .before .before .before .before .before .if1 .left)))
 
--- src/making.rt:34:13
-settle-requires : tie.Need-settle-requires
-settle-requires c κs = search needs
-
--- src/making.rt:15:5
-same-length-3 : tie.Need-same-length-3
-same-length-3 c = search needs
-
--- src/making.rt:15:5
 returns-3 : tie.Need-returns-3
-returns-3 c = ?
+returns-3 c =
+    let s = c .before .before .before .before .before .before .before .before .before .before .before .before .before .before .before .before .before .args in
+    let t = c .before .before .before .before .before .before .before .before .before .turn .ensures in
+    answered (stateOf (s .self)) (now (s .cells)) (flag (s .i)) (taken (c .before .before .before .before .before .before .before .before .before .before .before .before)) (rw (lt-leb _ _ (c .before .before .before .before .before .before .before .before .before .before .if2 .left))) (c .before .before .settle .result) (t .0) (ap (λ o. o .places) (t .1))
+    (c .before .before .before .before .before .before .flag-node .ensures)
+    (c .before .before .settle .ensures)
 
 pub flag-spec : {M : Type 1} → statement M
 flag-spec =
     tie.close
     (tie.spec
-    records-refusal-requires
-    same-length
+    (λ c κs. search needs)
+    (λ c. search needs)
     returns
-    cast-if2
-    same-length-2
+    (λ c. search needs)
+    (λ c. search needs)
     returns-2
-    turn-requires
+    (λ c κs. taken (c .before .before) .few)
     flag-node-requires
-    settle-requires
-    same-length-3
+    (λ c κs. omega (arith, fits {s = stateOf (c .before .before .before .before .before .before .before .before .before .before .before .before .before .before .args .self)} (taken (c .before .before .before .before .before .before .before .before .before)), c .before .before .before .flag-node .ensures .grew .grows .lent))
+    (λ c. search needs)
     returns-3)

@@ -1,0 +1,3 @@
+pub mod Answered
+pub mod Operator
+pub mod Opened
