@@ -1,0 +1,3 @@
+pub mod Insert
+pub mod Chain
+pub mod Counted
