@@ -64,6 +64,10 @@ unfolding depends
 depends-false v t h =
     elim (same? (cofactor v 0 t) (cofactor v 1 t)) [ inl s ↦ s .1 | inr s ↦ absurd (true≢false (sym (ap not (s .0)) ∙ h)) ]
 
+pub differ-depends : (v : ℕ) (t : List ℕ) → cofactor v 0 t ≢ cofactor v 1 t → depends v t ≡ true
+unfolding depends
+differ-depends v t d = elim (same? (cofactor v 0 t) (cofactor v 1 t)) [ inl s ↦ absurd (d (s .1)) | inr s ↦ ap not (s .0) ]
+
 pub not-depends : (v : ℕ) (t : List ℕ) → cofactor v 0 t ≡ cofactor v 1 t → depends v t ≡ false
 unfolding depends
 not-depends v t e = elim (same? (cofactor v 0 t) (cofactor v 1 t)) [ inl s ↦ ap not (s .0) | inr s ↦ absurd (s .1 e) ]

@@ -1,0 +1,87 @@
+-- The count of the ways that are nodes, one way at a time.
+-- Assumes nothing.
+use mathlib.Core.Path.{_≡_, refl, sym, ap, _∙_}
+use mathlib.Core.Bool.{Bool, true, false, _&&_, not}
+use mathlib.Core.List.{List, []}
+use Prim.Native.Nat.{ℕ, zero, suc, _+_, _≤_}
+use native.Mathlib.Nat.{add-zero}
+use native.Mathlib.Omega.{arith}
+use borrow.Author.Tests.{eq-eqb, ne-eqb}
+use lib.Dec.{eqb}
+use lib.ListN.{length, getD}
+use Rattle.rule.specs.Bits.{from, below}
+use Rattle.rule.specs.Tests.{addIf, keep}
+use Rattle.theory.proofs.Bits.{length-from}
+use Rattle.theory.proofs.Tests.{length-keep}
+use Rattle.folding.specs.Fold.{foldCount}
+use Rattle.folding.specs.Index.{codeAt}
+
+-- ---- a count over the numbers below k
+
+-- one more where the test passes
+abbrev more : Bool → ℕ
+more true = 1
+more false = 0
+
+counted-from : (p : ℕ → Bool) (a k : ℕ) → length (keep p (from a (suc k))) ≡ length (keep p (from a k)) + more (p (a + k))
+unfolding keep from
+counted-from p a zero = let e : a + 0 ≡ a = omega arith in rw e (go (p a))
+  where
+    go : (b : Bool) → length (addIf b a []) ≡ 0 + more b
+    go true = refl
+    go false = refl
+counted-from p a (suc k) = go (p a) (counted-from p (suc a) k)
+  where
+    go : (b : Bool) → length (keep p (from (suc a) (suc k))) ≡ length (keep p (from (suc a) k)) + more (p (suc a + k))
+        → length (addIf b a (keep p (from (suc a) (suc k)))) ≡ length (addIf b a (keep p (from (suc a) k))) + more (p (a + suc k))
+    go true e = let q : suc a + k ≡ a + suc k = omega arith in omega (arith, e, ap (λ (x : ℕ). more (p x)) q)
+    go false e = let q : suc a + k ≡ a + suc k = omega arith in omega (arith, e, ap (λ (x : ℕ). more (p x)) q)
+
+counted : (p : ℕ → Bool) (k : ℕ) → length (keep p (below (k + 1))) ≡ length (keep p (below k)) + more (p k)
+counted p k =
+    let e : k + 1 ≡ suc k = omega arith in
+    let z : 0 + k ≡ k = omega arith in
+    ap (λ (x : ℕ). length (keep p (below x))) e ∙ counted-from p 0 k ∙ ap (λ (x : ℕ). length (keep p (below k)) + more (p x)) z
+
+-- ---- the ways that are nodes
+
+-- way i is the first with its code, and its halves differ
+abbrev node : List ℕ → ℕ → List ℕ → ℕ → Bool
+node s p d i = eqb (getD d i 0) i && not (eqb (codeAt s p i 0) (codeAt s p i 1))
+
+-- those below k
+pub nodesBelow : List ℕ → ℕ → List ℕ → ℕ → ℕ
+nodesBelow s p d k = length (keep (node s p d) (below k))
+
+pub nodes-none : (s : List ℕ) (p : ℕ) (d : List ℕ) → 0 ≡ nodesBelow s p d 0
+unfolding nodesBelow keep from
+nodes-none s p d = refl
+
+pub nodes-le : (s : List ℕ) (p : ℕ) (d : List ℕ) (k : ℕ) → nodesBelow s p d k ≤ k
+unfolding nodesBelow
+nodes-le s p d k = omega (arith, length-keep (node s p d) (below k), length-from 0 k)
+
+pub nodes-all : (s : List ℕ) (p : ℕ) (d : List ℕ) → nodesBelow s p d (length d) ≡ foldCount s p d
+unfolding nodesBelow foldCount
+nodes-all s p d = refl
+
+-- no more than there are ways
+pub count-le : (s : List ℕ) (p : ℕ) (d : List ℕ) → foldCount s p d ≤ length d
+count-le s p d = omega (arith, nodes-all s p d, nodes-le s p d (length d))
+
+module _ (s : List ℕ) (p : ℕ) (d : List ℕ) (i : ℕ) where
+  next : (b : Bool) → node s p d i ≡ b → nodesBelow s p d (i + 1) ≡ nodesBelow s p d i + more b
+  unfolding nodesBelow
+  next b e = counted (node s p d) i ∙ ap (λ (x : Bool). length (keep (node s p d) (below i)) + more x) e
+
+  -- a and b are the two codes that were read
+  pub node-counted : (a b : ℕ) → getD d i 0 ≡ i → a ≡ codeAt s p i 0 → b ≡ codeAt s p i 1 → (a ≡ b → ⊥) → nodesBelow s p d (i + 1) ≡ nodesBelow s p d i + 1
+  node-counted a b e f g h =
+      next true (rw (eq-eqb (getD d i 0) i e, ne-eqb (codeAt s p i 0) (codeAt s p i 1) (λ q. h (f ∙ q ∙ sym g))))
+
+  pub halves-passed : (a b : ℕ) → getD d i 0 ≡ i → a ≡ codeAt s p i 0 → b ≡ codeAt s p i 1 → a ≡ b → nodesBelow s p d (i + 1) ≡ nodesBelow s p d i
+  halves-passed a b e f g h =
+      next false (rw (eq-eqb (getD d i 0) i e, eq-eqb (codeAt s p i 0) (codeAt s p i 1) (sym f ∙ h ∙ g))) ∙ add-zero _
+
+  pub later-passed : (getD d i 0 ≡ i → ⊥) → nodesBelow s p d (i + 1) ≡ nodesBelow s p d i
+  later-passed h = next false (rw (ne-eqb (getD d i 0) i h)) ∙ add-zero _
