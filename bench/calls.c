@@ -1,0 +1,171 @@
+// The calls on single diagrams: those of the older commit beside this one's, and the walk beside the same in plain C.
+#include "drawing.h"
+#include "engine.h"
+#include "measure.h"
+#include "plain.h"
+
+#include <stdio.h>
+#include <stdlib.h>
+#include <string.h>
+
+// So many stores are walked in turn that a processor can't learn their branches by heart, as it does those of one store that is walked again and again.
+enum { STORES = 256, TABLES = 200 };
+
+// What the calls are given: the first `kinds` of the stores, of which `length` cells are lent, and diagrams of tables.
+static struct store stores[STORES];
+static uint16_t nodes[STORES], rows[STORES];
+static int kinds;
+static size_t length;
+static uint8_t tables[TABLES][ROWS];
+static struct store diagrams[TABLES];
+static uint16_t roots[TABLES];
+static uint16_t lent[CELLS];
+static uint8_t bytes[ROWS];
+
+#define WALK(name, call)                                                                                                  \
+    static uint64_t name(int input)                                                                                       \
+    {                                                                                                                     \
+        int i = input % kinds;                                                                                            \
+        return call(FLAGS, rising_order, stores[i].cells, length, stores[i].used, nodes[i], rows[i]);                     \
+    }
+WALK(new_walk, engine_walk)
+WALK(old_walk, old_engine_walk)
+WALK(c_walk, plain_walk)
+
+#define CHECK(name, call)                                                                                                 \
+    static uint64_t name(int i)                                                                                           \
+    {                                                                                                                     \
+        return call(FLAGS, rising_order, diagrams[i].cells, WIDTH * diagrams[i].used, diagrams[i].used, roots[i]);        \
+    }
+CHECK(new_check, engine_check)
+CHECK(old_check, old_engine_check)
+
+#define TABULATE(name, call)                                                                                              \
+    static uint64_t name(int i)                                                                                           \
+    {                                                                                                                     \
+        struct store *of = &diagrams[i];                                                                                  \
+        return call(FLAGS, rising_order, of->cells, WIDTH * of->used, of->used, roots[i], bytes, ROWS);                   \
+    }
+TABULATE(new_tabulate, engine_tabulate)
+TABULATE(old_tabulate, old_engine_tabulate)
+
+#define BUILD(name, call)                                                                                                 \
+    static uint64_t name(int i) { return call(FLAGS, tables[i], ROWS, rising_order, lent, CELLS); }
+BUILD(new_build, engine_build)
+BUILD(old_build, old_engine_build)
+
+static void must(int holds, const char *what)
+{
+    if (!holds) {
+        printf("%s\n", what);
+        exit(1);
+    }
+}
+
+// Stores of so many records, in cells that hold these and no more, or all that may be lent.
+static void make_stores(unsigned records, int whole)
+{
+    kinds = STORES;
+    length = whole ? CELLS : WIDTH * records;
+    for (int i = 0; i < STORES; i++) {
+        random_store(&stores[i], records);
+        nodes[i] = records + 1 - random_below(records / 4);
+        rows[i] = random_below(ROWS);
+        must(refusal(new_walk(i)) == 0, "a store of random rules is refused");
+    }
+}
+
+// Random tables, and their diagrams by the engine.
+static void make_diagrams(void)
+{
+    double sum = 0;
+    for (int i = 0; i < TABLES; i++) {
+        random_table(tables[i]);
+        uint64_t answer = new_build(i);
+        memcpy(diagrams[i].cells, lent, sizeof lent);
+        diagrams[i].used = first_value(answer);
+        roots[i] = second_value(answer);
+        must(refusal(answer) == 0 && answer == old_build(i), "the builds differ");
+        must(new_check(i) == (uint64_t)diagrams[i].used << 8 && new_check(i) == old_check(i), "the checks differ");
+        must(new_tabulate(i) == 0 && memcmp(bytes, tables[i], ROWS) == 0, "a diagram tabulates to another table");
+        sum += diagrams[i].used;
+    }
+    printf("%d random tables of ten flags have %.1f records each\n", TABLES, sum / TABLES);
+}
+
+// All three walks answer alike, of stores with one cell changed.
+static void compare(void)
+{
+    static const unsigned sizes[] = {4, 64, 256, 1024};
+    int tried = 0, refused = 0;
+    for (int s = 0; s < 4; s++) {
+        make_stores(sizes[s], s % 2);
+        for (int i = 0; i < STORES; i++)
+            for (int t = 0; t < 20; t++) {
+                uint16_t *cell = &stores[i].cells[random_below(length)];
+                uint16_t kept = *cell;
+                *cell = t % 2 ? random_below(stores[i].used + 2) : random_below(FLAGS + 1);
+                uint64_t answer = new_walk(i);
+                must(answer == old_walk(i) && answer == c_walk(i), "the walks differ");
+                *cell = kept;
+                tried++;
+                refused += refusal(answer) != 0;
+            }
+    }
+    printf("%d walks of stores with a changed cell answer alike, %d are refused\n", tried, refused);
+}
+
+static const struct way walks[2] = {{"old", old_walk, 0}, {"new", new_walk, 0}};
+static const struct way checks[2] = {{"old", old_check, 0}, {"new", new_check, 0}};
+static const struct way tabulates[2] = {{"old", old_tabulate, 0}, {"new", new_tabulate, 0}};
+static const struct way builds[2] = {{"old", old_build, 0}, {"new", new_build, 0}};
+static const struct way plain_walks[2] = {{"engine", new_walk, 0}, {"plain C", c_walk, 0}};
+
+// Walks of stores with 64, 256 and 1,024 records, in turn or always the first; and how the time grows.
+static void measure_walks(const struct way *ways, int in_turn, int rounds)
+{
+    struct took took[3][2];
+    char what[64];
+    for (int s = 0; s < 3; s++) {
+        unsigned records = 64 << 2 * s;
+        make_stores(records, 0);
+        kinds = in_turn ? STORES : 1;
+        measure(ways, 2, STORES, rounds, took[s]);
+        snprintf(what, sizeof what, "walk, %u records, %s", records, in_turn ? "many stores in turn" : "one store");
+        print_line(what, took[s], 2);
+    }
+    printf("%-46s", "  1,024 records to 256");
+    for (int w = 0; w < 2; w++)
+        printf("%14.2f%8.2f", took[2][w].least / took[1][w].least, took[2][w].median / took[1][w].median);
+    printf("\n");
+}
+
+static void measure_diagrams(const char *what, const struct way *ways)
+{
+    struct took took[2];
+    measure(ways, 2, TABLES, 60, took);
+    print_line(what, took, 2);
+}
+
+int main(void)
+{
+    struct took took[2];
+
+    compare();
+    make_diagrams();
+
+    print_head(walks, 2);
+    measure_walks(walks, 1, 30);
+    measure_walks(walks, 0, 30);
+    make_stores(64, 1);
+    measure(walks, 2, STORES, 60, took);
+    print_line("walk, 64 records in 3,072 cells", took, 2);
+    measure_diagrams("check of a diagram", checks);
+    measure_diagrams("tabulate a diagram", tabulates);
+    measure_diagrams("build of a table", builds);
+
+    print_head(plain_walks, 2);
+    measure_walks(plain_walks, 1, 200);
+    measure_walks(plain_walks, 0, 200);
+    return 0;
+}

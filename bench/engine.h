@@ -1,0 +1,29 @@
+// The calls of crates/exports as C sees them, of this commit and, with old_ before the name, of the older one that bench/run builds beside it.
+// A slice is a pointer and the number of its elements, an order its ten bytes.
+#ifndef ENGINE_H
+#define ENGINE_H
+
+#include <stddef.h>
+#include <stdint.h>
+
+#define DIAGRAM_CALLS(prefix)                                                                                                          \
+    uint64_t prefix##engine_build(uint8_t n, const uint8_t *table, size_t rows, const uint8_t *order, uint16_t *cells, size_t length); \
+    uint64_t prefix##engine_check(uint8_t n, const uint8_t *order, const uint16_t *cells, size_t length, uint16_t used, uint16_t root); \
+    uint64_t prefix##engine_walk(uint8_t n, const uint8_t *order, const uint16_t *cells, size_t length, uint16_t used, uint16_t node,  \
+                                 uint16_t row);                                                                                        \
+    uint64_t prefix##engine_tabulate(uint8_t n, const uint8_t *order, const uint16_t *cells, size_t length, uint16_t used,             \
+                                     uint16_t node, uint8_t *bytes, size_t rows);
+
+DIAGRAM_CALLS()
+DIAGRAM_CALLS(old_)
+
+// The store's join: used records, then the node. It is weak while crates/exports has none: the programs that measure it test whether it is there.
+uint64_t engine_join(uint8_t n, const uint8_t *order, uint16_t *cells, size_t length, uint16_t used, uint8_t code, uint16_t first,
+                     uint16_t second) __attribute__((weak));
+
+// The parts of an answer.
+static inline unsigned refusal(uint64_t answer) { return answer & 0xff; }
+static inline unsigned first_value(uint64_t answer) { return answer >> 8 & 0xffff; }
+static inline unsigned second_value(uint64_t answer) { return answer >> 24 & 0xffff; }
+
+#endif

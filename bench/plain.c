@@ -1,0 +1,91 @@
+#include "plain.h"
+
+#include <string.h>
+
+enum { MOST_FLAGS = 10, WIDTH = 3, RECORDS = 1024, HEADS = 1024 };
+
+static unsigned hash(unsigned flag, unsigned low, unsigned high) { return (flag * 349 + low + high * 633) % HEADS; }
+
+// The level of each flag, where the order names each once and has 0 from place n on.
+static int turn(unsigned n, const uint8_t *order, uint8_t *level)
+{
+    unsigned seen = 0;
+    for (unsigned i = 0; i < n; i++) {
+        unsigned flag = order[i];
+        if (flag >= n || (seen >> flag & 1))
+            return 0;
+        seen |= 1u << flag;
+        level[flag] = i;
+    }
+    for (unsigned i = n; i < MOST_FLAGS; i++)
+        if (order[i] != 0)
+            return 0;
+    return 1;
+}
+
+// Whether node m is an end node or asks a flag behind the level.
+static int asks_later(const uint8_t *level, const uint16_t *cells, unsigned at, unsigned m)
+{
+    return m < 2 || at < level[cells[WIDTH * (m - 2)]];
+}
+
+// Whether one of the records that are entered is these three.
+static int known(const uint16_t *cells, const uint16_t *links, unsigned at, unsigned flag, unsigned low, unsigned high)
+{
+    while (at != 0) {
+        const uint16_t *record = cells + WIDTH * (at - 1);
+        if (record[0] == flag && record[1] == low && record[2] == high)
+            return 1;
+        at = links[at - 1];
+    }
+    return 0;
+}
+
+static int sound(unsigned n, const uint8_t *level, const uint16_t *cells, size_t length, unsigned used)
+{
+    uint16_t heads[HEADS];
+    uint16_t links[RECORDS];
+    memset(heads, 0, sizeof heads);
+    memset(links, 0, sizeof links);
+    if (length / WIDTH < used)
+        return 0;
+    for (unsigned k = 0; k < used; k++) {
+        unsigned flag = cells[WIDTH * k], low = cells[WIDTH * k + 1], high = cells[WIDTH * k + 2];
+        if (flag >= n || low == high || low >= k + 2 || high >= k + 2)
+            return 0;
+        if (!asks_later(level, cells, level[flag], low) || !asks_later(level, cells, level[flag], high))
+            return 0;
+        unsigned h = hash(flag, low, high);
+        if (known(cells, links, heads[h], flag, low, high))
+            return 0;
+        links[k] = heads[h];
+        heads[h] = k + 1;
+    }
+    for (size_t i = WIDTH * used; i < length; i++)
+        if (cells[i] != 0)
+            return 0;
+    return 1;
+}
+
+uint64_t plain_walk(uint8_t n, const uint8_t *order, const uint16_t *cells, size_t length, uint16_t used, uint16_t node, uint16_t row)
+{
+    uint8_t level[MOST_FLAGS];
+    if (n > MOST_FLAGS)
+        return 1;
+    if (!turn(n, order, level))
+        return 4;
+    if (length % WIDTH != 0 || length > WIDTH * RECORDS)
+        return 5;
+    if (!sound(n, level, cells, length, used))
+        return 6;
+    if (node > used + 1)
+        return 7;
+    if (row >= 1u << n)
+        return 9;
+    unsigned m = node;
+    while (m >= 2) {
+        const uint16_t *record = cells + WIDTH * (m - 2);
+        m = row >> record[0] & 1 ? record[2] : record[1];
+    }
+    return (uint64_t)m << 8;
+}

@@ -1,0 +1,11 @@
+// The walk of a store in plain C: the same tests in the same sequence, with the same index.
+#ifndef PLAIN_H
+#define PLAIN_H
+
+#include <stddef.h>
+#include <stdint.h>
+
+// As engine_walk.
+uint64_t plain_walk(uint8_t n, const uint8_t *order, const uint16_t *cells, size_t length, uint16_t used, uint16_t node, uint16_t row);
+
+#endif

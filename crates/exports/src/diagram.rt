@@ -1,0 +1,84 @@
+// The calls on single diagrams.
+use crate::values::answer;
+use rule::Counted;
+use rule::Done;
+use rule::Drawn;
+use rule::Node;
+use rule::Order;
+use rule::Said;
+
+// Build: the node count and the root.
+#[no_mangle]
+pub extern "C" fn engine_build(n: u8, table: &[u8], places: &[u8; 10], cells: &mut [u16]) -> u64 {
+    match building::build(n, table, Order { places: *places }, cells) {
+        Drawn::Diagram { nodes, root } => answer(0, nodes, root.number),
+        Drawn::Refused(k) => answer(k, 0, 0),
+    }
+}
+
+// Check: the node count.
+#[no_mangle]
+pub extern "C" fn engine_check(
+    n: u8,
+    places: &[u8; 10],
+    cells: &[u16],
+    used: u16,
+    root: u16,
+) -> u64 {
+    match checking::check(
+        n,
+        Order { places: *places },
+        cells,
+        used,
+        Node { number: root },
+    ) {
+        Counted::Nodes(nodes) => answer(0, nodes, 0),
+        Counted::Refused(k) => answer(k, 0, 0),
+    }
+}
+
+// Walk: the answer.
+#[no_mangle]
+pub extern "C" fn engine_walk(
+    n: u8,
+    places: &[u8; 10],
+    cells: &[u16],
+    used: u16,
+    node: u16,
+    row: u16,
+) -> u64 {
+    match walking::walk(
+        n,
+        Order { places: *places },
+        cells,
+        used,
+        Node { number: node },
+        row,
+    ) {
+        Said::Answer(a) => answer(0, a as u16, 0),
+        Said::Refused(k) => answer(k, 0, 0),
+    }
+}
+
+// Tabulate: no value.
+#[no_mangle]
+pub extern "C" fn engine_tabulate(
+    n: u8,
+    places: &[u8; 10],
+    cells: &[u16],
+    used: u16,
+    node: u16,
+    bytes: &mut [u8],
+) -> u64 {
+    match walking::tabulate(
+        n,
+        Order { places: *places },
+        cells,
+        used,
+        Node { number: node },
+        bytes,
+    ) {
+        Done::Accepted => answer(0, 0, 0),
+        Done::Refused(k) => answer(k, 0, 0),
+    }
+}

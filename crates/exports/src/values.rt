@@ -1,0 +1,4 @@
+// An answer as one number, from the lowest bit on: the refusal in 8 bits, 0 for none, then two values in 16 bits each.
+pub fn answer(refused: u8, first: u16, second: u16) -> u64 {
+    refused as u64 + first as u64 * 256 + second as u64 * 16777216
+}
