@@ -2,7 +2,7 @@
 
 #include <string.h>
 
-enum { MOST_FLAGS = 10, WIDTH = 3, RECORDS = 1024, HEADS = 1024 };
+enum { MOST_FLAGS = 10, WIDTH = 3, RECORDS = 1024, HEADS = 4096 };
 
 static unsigned hash(unsigned flag, unsigned low, unsigned high) { return (flag * 349 + low + high * 633) % HEADS; }
 

@@ -1,0 +1,33 @@
+// The store's calls: the state goes in as n, the order and the used number, and the used number comes back before the node.
+use crate::values::answer;
+use rule::Made;
+use rule::Node;
+use rule::Order;
+use store::Store;
+use store::Stored;
+
+// What a call that makes a rule hands back.
+fn stored(made: Stored) -> u64 {
+    let used = made.store.used;
+    let said = made.answer;
+    match said {
+        Made::Rule(node) => answer(0, used, node.number),
+        Made::Refused(k) => answer(k, used, 0),
+    }
+}
+
+// Join: the used number and the node.
+#[no_mangle]
+pub extern "C" fn engine_join(
+    n: u8,
+    places: &[u8; 10],
+    cells: &mut [u16],
+    used: u16,
+    code: u8,
+    first: u16,
+    second: u16,
+) -> u64 {
+    let order = Order { places: *places };
+    let store = Store { n, order, used };
+    stored(store.join(cells, code, Node { number: first }, Node { number: second }))
+}
