@@ -1,0 +1,46 @@
+use crate::search::search;
+use crate::stretch;
+use rule::Drawn;
+use rule::Order;
+use rule::Packed;
+ghost use Rattle.rule.specs.Answers.{packedReply};
+ghost use Rattle.rule.specs.Calls.{Pack};
+
+// Pack: the order with the fewest nodes, the node count and the root, with the diagram in the cells; or why there is none: 1, 2, 3, 5, 8, then 10.
+pub fn pack(n: u8, table: &[u8], cells: &mut [u16], workspace: &mut [u16]) -> Packed
+    ensures { λ r. ⌜ Pack n (now (table .entry)) (now (cells .entry)) (now (workspace .entry)) (packedReply (r .order) (r .answer)) (now (cells .exit)) (now (workspace .exit)) ⌝ }
+{
+    let none = Order { places: [0u8; 10] };
+    let refused = arguments::table_refusal(n, table);
+    if refused != 0 {
+        return Packed {
+            order: none,
+            answer: Drawn::Refused(refused),
+        };
+    }
+    if !cells::fit_cells(cells) {
+        return Packed {
+            order: none,
+            answer: Drawn::Refused(5),
+        };
+    }
+    if workspace.len() < stretch::cell_count(n) {
+        return Packed {
+            order: none,
+            answer: Drawn::Refused(8),
+        };
+    }
+    let order = search(n, table, workspace);
+    cells::clear_from(workspace, 0);
+    let drawn = building::build(n, table, order, cells);
+    match drawn {
+        Drawn::Refused(k) => Packed {
+            order: none,
+            answer: Drawn::Refused(k),
+        },
+        Drawn::Diagram { nodes, root } => Packed {
+            order,
+            answer: Drawn::Diagram { nodes, root },
+        },
+    }
+}
