@@ -202,8 +202,7 @@ module _ (n : ℕ) (t : List ℕ) (few : n ≤ 10) (fit : length t ≡ 2 ^ n) wh
           let d = via-is-cost (firstOf n t S) b in
           let low = c .low (firstOf n t S) l b in
           let up′ = p .least (x .flag) m in
-          let is : x .cost ≡ search.via (cost n t) n S (firstOf n t S) = omega (arith, c .is) in
-          (
+          let is : x .cost ≡ search.via (cost n t) n S (firstOf n t S) = omega (arith, c .is) in (
             is ∙ sym q,
             le-antisymm (c .first (firstOf n t S) l b (d ∙ sym is)) (p .first (x .flag) m (sym a ∙ sym (c .is) ∙ is)),
           )
