@@ -1,10 +1,10 @@
--- The laws of the index: the chain of one hash passes every first way that can have the codes looked for, one way more is entered by a link and a head, and the
--- first ways of all are a folded stretch.
+-- The laws of the index: the chain of one hash passes every first way that can have the codes looked for, one way more is entered by a link and a head, and
+-- the first ways of all are a folded stretch.
 -- Assumes nothing.
-use mathlib.Core.Path.{_≡_, refl, sym, ap, ap₂, _∙_}
+use mathlib.Core.Path.{_≡_, refl, sym, ap₂, _∙_}
 use mathlib.Core.Logic.{_⊎_, inl, inr, ⊎-elim}
 use mathlib.Core.List.{List}
-use Prim.Native.Nat.{ℕ, zero, suc, _+_, _*_, _%_, _≤_, _<_}
+use Prim.Native.Nat.{ℕ, zero, suc, _+_, _*_, _≤_, _<_}
 use native.Mathlib.Nat.{eq-or-lt-of-le, le-refl}
 use native.Mathlib.Decide.{ℕ-discrete, decLt}
 use native.Mathlib.Omega.{arith}
@@ -117,7 +117,10 @@ module _ {s : List ℕ} {p : ℕ} where
           above = λ j a b. absurd (omega arith);
         })
     head-is h l (no d) =
-        rw (getD-set-other linked (hashAt s p i) h (i + 1) 0 (λ e. d (sym e)), getD-set-other index (heads + i) h (getD index (hashAt s p i) 0) 0 (omega arith))
+        rw (
+          getD-set-other linked (hashAt s p i) h (i + 1) 0 (λ e. d (sym e)),
+          getD-set-other index (heads + i) h (getD index (hashAt s p i) 0) 0 (omega arith),
+        )
         (last-passed (λ f e. d e) (x .head h l))
 
     -- a link is no head
@@ -172,7 +175,7 @@ module _ {s : List ℕ} {p : ℕ} where
       record {
         within = le-refl i;
         same = (refl, refl);
-        new = ⊎-elim (λ (w : (j : ℕ) × (j < i) × Same s p j i × New s p j). absurd (r .above (w .0) (omega arith) (w .1) (w .3) (w .2))) (λ f. f) (search-below s p i i);
+        new = elim (search-below s p i i) [ inl (j, h, q, f) ↦ absurd (r .above j (omega arith) h f q) | inr f ↦ f ];
       }
 
   -- ---- the first ways of all

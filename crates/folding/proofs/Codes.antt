@@ -1,15 +1,15 @@
 -- Codes that are folded are codes again, and their count is that of the nodes that ask the flag (document 001, chapter 3).
 -- Assumes nothing.
-use mathlib.Core.Path.{_≡_, refl, sym, ap, ap₂, subst, _∙_}
+use mathlib.Core.Path.{_≡_, sym, ap, ap₂, subst, _∙_}
 use mathlib.Core.Logic.{_↔_}
-use mathlib.Core.Bool.{Bool, true, false, _&&_, not, false≢true}
-use mathlib.Core.List.{List, _∷_, _++_, map}
-use Prim.Native.Nat.{ℕ, suc, _+_, _-_, _*_, _^_, _≤_, _<_}
+use mathlib.Core.Bool.{Bool, true, _&&_, not}
+use mathlib.Core.List.{List, _++_, map}
+use Prim.Native.Nat.{ℕ, suc, _+_, _-_, _^_, _≤_, _<_}
 use native.Mathlib.Omega.{arith}
 use borrow.Author.Tests.{eqb-true, eqb-false, not-true, eq-eqb, ne-eqb}
 use lib.Count.{onesIn}
 use lib.Dec.{eqb}
-use lib.ListN.{length, getD, length-append, length-map}
+use lib.ListN.{length, getD, length-map}
 use lib.Pow.{pow-pos}
 use lib.Seq.{ext-getD}
 use Rattle.rule.specs.Bits.{bit, setBit, below}
@@ -17,22 +17,21 @@ use Rattle.rule.specs.Tests.{keep}
 use Rattle.rule.specs.Table.{cofactor, depends}
 use Rattle.rule.specs.Level.{levelNodes}
 use Rattle.rule.specs.Sets.{setSize, stretch}
-use Rattle.theory.specs.Restrict.{restrict}
 use Rattle.theory.proofs.Member.{In, in-map, map-in, cast}
 use Rattle.theory.proofs.Tests.{and-split, and-join, keep-in, in-keep}
-use Rattle.theory.proofs.Bits.{below-in, in-below, clear-le}
+use Rattle.theory.proofs.Bits.{below-in, in-below}
 use Rattle.theory.proofs.Perm.{Once, Within, once-keep, once-from, once-map, once-set}
 use Rattle.theory.proofs.Cofactor.{depends-true, differ-depends}
-use Rattle.theory.proofs.Friedman.{Flags, level-in, in-level, level-once}
+use Rattle.theory.proofs.Friedman.{level-in, in-level, level-once}
 use Rattle.theory.proofs.Sets.{having, having-exactly}
 use Rattle.theory.proofs.Packed.{cost}
-use Rattle.theory.proofs.Restrict.{length-restrict, restrict-all}
+use Rattle.theory.proofs.Restrict.{restrict-all}
 use Rattle.theory.proofs.Canonical.{mix, mix-cofactors}
 use Rattle.folding.specs.Fold.{insertBit, placeOf, Foldable, Folds, foldCount}
 use Rattle.folding.specs.Codes.{fixedBy, wayRule, Codes, Firsts}
 use Rattle.folding.proofs.Insert.{insert-lt}
 use Rattle.folding.proofs.Fixed.{length-fixed, fixed-insert, fixed-in, in-fixed, fixed-row}
-use Rattle.folding.proofs.Outside.{above, outside-none, outside-size, outside-with, outside-without, outside-place}
+use Rattle.folding.proofs.Outside.{above, outside-none, outside-size, outside-with, outside-without, outside-place, rest-size, place-le}
 
 module _ (n : ℕ) (t : List ℕ) (fit : length t ≡ 2 ^ n) where
   length-way : (set i : ℕ) → length (wayRule n t set i) ≡ 2 ^ n
@@ -69,35 +68,8 @@ module _ (n : ℕ) (t : List ℕ) (fit : length t ≡ 2 ^ n) where
   -- ---- one flag of a set
 
   module _ (set v : ℕ) (few : n ≤ 10) (small : set < 2 ^ n) (h : v < n) (has : bit set v ≡ 1) where
-    abbrev rest : ℕ
-    rest = setBit set v 0
-
-    abbrev place : ℕ
-    place = placeOf set v
-
-    -- the ways of the set are half as many
-    rest-size : n - setSize rest ≡ suc (n - setSize set)
-    rest-size =
-        sym (outside-size n rest few (omega (arith, clear-le set v)))
-        ∙ ap length (outside-without n set v h has)
-        ∙ length-append (having 0 v set) (v ∷ above n set v)
-        ∙ omega (arith, length-append (having 0 v set) (above n set v), ap length (outside-with n set v h has), outside-size n set few small)
-
-    place-le : place ≤ n - setSize set
-    place-le =
-        omega (
-          arith,
-          outside-place set v,
-          length-append (having 0 v set) (above n set v),
-          ap length (outside-with n set v h has),
-          outside-size n set few small,
-        )
-
-    pub stretch-half : stretch n rest ≡ stretch n set * 2
-    stretch-half = ap (λ (k : ℕ). 2 ^ k) rest-size ∙ omega arith
-
     -- with v fixed too, a way's rule is the cofactor
-    way-half : (i b : ℕ) → b < 2 → wayRule n t rest (insertBit i place b) ≡ cofactor v b (wayRule n t set i)
+    way-half : (i b : ℕ) → b < 2 → wayRule n t (setBit set v 0) (insertBit i (placeOf set v) b) ≡ cofactor v b (wayRule n t set i)
     unfolding wayRule
     way-half i b b<2 =
         rw (outside-without n set v h has, outside-with n set v h has, ← outside-place set v)
@@ -106,26 +78,33 @@ module _ (n : ℕ) (t : List ℕ) (fit : length t ≡ 2 ^ n) where
         lacks : (u : ℕ) → In u (having 0 v set ++ above n set v) → (u < n) × (bit set u ≡ 0)
         lacks u m = having-exactly 0 n set .sound u (subst (λ (l : List ℕ). In u l) (sym (outside-with n set v h has)) m)
 
-    module _ {s : List ℕ} (c : Codes n t rest s) where
+    module _ {s : List ℕ} (c : Codes n t (setBit set v 0) s) where
       twice : length s ≡ 2 ^ suc (n - setSize set)
-      twice = c .ways ∙ ap (λ (k : ℕ). 2 ^ k) rest-size
+      twice = c .ways ∙ ap (λ (k : ℕ). 2 ^ k) (rest-size n set v few small h has)
 
       -- so such codes can be folded
-      pub codes-foldable : Foldable s place
-      codes-foldable = record { flags = n - setSize set; ways = twice; place = place-le; few = omega (arith, rest-size) }
+      pub codes-foldable : Foldable s (placeOf set v)
+      codes-foldable =
+          record {
+            flags = n - setSize set;
+            ways = twice;
+            place = place-le n set v few small h has;
+            few = omega (arith, rest-size n set v few small h has);
+          }
 
       -- two halves have one code exactly where the two cofactors are one
       halves : (i j a b : ℕ) → i < stretch n set → j < stretch n set → a < 2 → b < 2
-          → (getD s (insertBit i place a) 0 ≡ getD s (insertBit j place b) 0) ↔ (cofactor v a (wayRule n t set i) ≡ cofactor v b (wayRule n t set j))
+          → (getD s (insertBit i (placeOf set v) a) 0 ≡ getD s (insertBit j (placeOf set v) b) 0)
+          ↔ (cofactor v a (wayRule n t set i) ≡ cofactor v b (wayRule n t set j))
       halves i j a b hi hj ha hb =
           rw (← way-half i a ha, ← way-half j b hb)
-          (c .same (insertBit i place a) (insertBit j place b) (within i a hi ha) (within j b hj hb))
+          (c .same (insertBit i (placeOf set v) a) (insertBit j (placeOf set v) b) (within i a hi ha) (within j b hj hb))
         where
-          within : (k x : ℕ) → k < stretch n set → x < 2 → insertBit k place x < length s
-          within k x l m = rw twice (insert-lt (n - setSize set) k place x l place-le m)
+          within : (k x : ℕ) → k < stretch n set → x < 2 → insertBit k (placeOf set v) x < length s
+          within k x l m = rw twice (insert-lt (n - setSize set) k (placeOf set v) x l (place-le n set v few small h has) m)
 
       -- folded, they are the codes of the set
-      pub codes-fold : {d : List ℕ} → Folds s place d → Codes n t set d
+      pub codes-fold : {d : List ℕ} → Folds s (placeOf set v) d → Codes n t set d
       codes-fold {d} f =
           let lent : length d ≡ stretch n set = omega (arith, f .half, twice) in
           record {
@@ -145,7 +124,7 @@ module _ (n : ℕ) (t : List ℕ) (fit : length t ≡ 2 ^ n) where
       -- and whatever flag they were folded by, their count is that of the nodes that ask v
       module _ {d : List ℕ} (e : Codes n t set d) (first : Firsts d) where
         node : ℕ → Bool
-        node i = eqb (getD d i 0) i && not (eqb (getD s (insertBit i place 0) 0) (getD s (insertBit i place 1) 0))
+        node i = eqb (getD d i 0) i && not (eqb (getD s (insertBit i (placeOf set v) 0) 0) (getD s (insertBit i (placeOf set v) 1) 0))
 
         rules : List (List ℕ)
         rules = map (wayRule n t set) (keep node (below (length d)))
@@ -194,7 +173,7 @@ module _ (n : ℕ) (t : List ℕ) (fit : length t ≡ 2 ^ n) where
             let w : wayRule n t set (getD d i 0) ≡ u = e .same (getD d i 0) i r g .0 z ∙ q in
             cast (sym w) (in-map (wayRule n t set) (is-node (getD d i 0) r z (ap (depends v) w ∙ y)))
 
-        pub count-is : foldCount s place d ≡ cost n t set v
+        pub count-is : foldCount s (placeOf set v) d ≡ cost n t set v
         unfolding foldCount cost rules node
         count-is =
             sym (length-map (keep node (below (length d))) (wayRule n t set))

@@ -1,6 +1,6 @@
--- A rule with flags fixed to the bits of a number: one flag more is a cofactor, the rules that arise are all of these, and with every flag fixed one row is left.
+-- A rule with flags fixed to the bits of a number: one flag more is a cofactor, the rules that arise are these, and with every flag fixed one row is left.
 -- Assumes nothing.
-use mathlib.Core.Path.{_≡_, refl, sym, ap, ap₂, _∙_}
+use mathlib.Core.Path.{_≡_, refl, sym, ap, _∙_}
 use mathlib.Core.List.{List, [], _∷_, _++_}
 use Prim.Native.Nat.{ℕ, zero, suc, _+_, _*_, _/_, _%_, _^_, _<_}
 use native.Mathlib.Omega.{arith}
@@ -31,7 +31,8 @@ digits vs v x b t h =
 
 module _ (n v b : ℕ) (v<n : v < n) (b<2 : b < 2) where
   -- a flag is fixed before the others or after them
-  fixed-comm : (vs : List ℕ) (i : ℕ) (t : List ℕ) → length t ≡ 2 ^ n → Flags n vs → (In v vs → ⊥) → fixedBy vs i (cofactor v b t) ≡ cofactor v b (fixedBy vs i t)
+  fixed-comm : (vs : List ℕ) (i : ℕ) (t : List ℕ) → length t ≡ 2 ^ n → Flags n vs → (In v vs → ⊥)
+      → fixedBy vs i (cofactor v b t) ≡ cofactor v b (fixedBy vs i t)
   unfolding fixedBy
   fixed-comm [] i t fit f d = refl
   fixed-comm (u ∷ vs) i t fit f d =

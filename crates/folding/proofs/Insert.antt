@@ -1,12 +1,14 @@
 -- The numbers of ways: a bit inserted, as a sum and below its bound, and the place of a flag among those outside a set, by a count of ones.
 -- Assumes nothing.
-use mathlib.Core.Path.{_≡_, refl, sym, ap, ap₂, _∙_}
+use mathlib.Core.Path.{_≡_, sym, ap, ap₂, _∙_}
 use mathlib.Core.List.{List}
 use Prim.Native.Nat.{ℕ, zero, suc, _+_, _-_, _*_, _/_, _%_, _^_, _≤_, _<_}
-use native.Mathlib.Nat.{le-of-suc-le-suc, not-suc-le-zero, div-one, mul-one, one-mul, add-mul, mul-assoc, mul-le-mul-right, div-mul-le-self, mod-eq-of-lt, div-div-eq-div-mul, pow-suc, pow-succ'}
+use native.Mathlib.Nat.{le-of-suc-le-suc, not-suc-le-zero, div-one, mul-one, one-mul, add-mul, mul-assoc, mul-le-mul-right}
+use native.Mathlib.Nat.{div-mul-le-self, mod-eq-of-lt, div-div-eq-div-mul, pow-suc, pow-succ'}
 use native.Mathlib.Numerals.{add-one}
 use native.Mathlib.Omega.{arith}
 use lib.Count.{ones, onesIn, ones-step}
+use lib.Count as count
 use lib.Pow.{pow-mono, split, field, mod-mod-pow}
 use lib.ListN.{length}
 use Rattle.folding.specs.Fold.{insertBit, Foldable}
@@ -59,6 +61,9 @@ pub ones-le : (d x : ℕ) → onesIn d x ≤ d
 unfolding onesIn
 ones-le zero x = omega arith
 ones-le (suc d) x = omega (arith, ones-le d (x / 2))
+
+pub ones-small : (x : ℕ) → x < 65536 → ones x < 65536
+ones-small x h = omega (arith, count.ones-le 16 x h)
 
 -- the ones of a number's lowest digits
 ones-low : (d x : ℕ) → ones (x % 2 ^ d) ≡ onesIn d x

@@ -3,18 +3,18 @@
 use mathlib.Core.Path.{_≡_, refl, sym, ap, ap₂, _∙_}
 use mathlib.Core.Bool.{Bool, true, false}
 use mathlib.Core.List.{List, [], _∷_, _++_}
-use Prim.Native.Nat.{ℕ, zero, suc, _+_, _-_, _/_, _%_, _^_, _≤_, _<_}
+use Prim.Native.Nat.{ℕ, zero, suc, _+_, _-_, _*_, _/_, _%_, _^_, _≤_, _<_}
 use native.Mathlib.Omega.{arith}
-use borrow.Author.Tests.{eq-eqb, ne-eqb}
+use borrow.Author.Tests.{eq-eqb}
 use lib.Count.{onesIn}
 use lib.Dec.{eqb}
 use lib.ListN.{length, length-append}
 use Rattle.rule.specs.Bits.{bit, setBit, from, below}
 use Rattle.rule.specs.Tests.{addIf, keep}
-use Rattle.rule.specs.Sets.{setSize}
+use Rattle.rule.specs.Sets.{setSize, stretch}
 use Rattle.theory.proofs.Member.{In, head, tail}
-use Rattle.theory.proofs.Bits.{from-in, bit-lt, bit-zero, bit-same, bit-other, clear-le}
-use Rattle.theory.proofs.Sets.{having, member-lt}
+use Rattle.theory.proofs.Bits.{from-in, bit-zero, bit-same, bit-other, clear-le}
+use Rattle.theory.proofs.Sets.{having}
 use Rattle.folding.specs.Fold.{placeOf}
 
 -- ---- what is kept
@@ -134,3 +134,25 @@ module _ (n set v : ℕ) (h : v < n) (e : bit set v ≡ 1) where
 pub outside-place : (set v : ℕ) → length (having 0 v set) ≡ placeOf set v
 unfolding placeOf
 outside-place set v = omega (arith, length-having v set)
+
+module _ (n set v : ℕ) (few : n ≤ 10) (small : set < 2 ^ n) (h : v < n) (e : bit set v ≡ 1) where
+  sides-size : length (having 0 v set) + length (above n set v) ≡ n - setSize set
+  sides-size =
+      sym (length-append (having 0 v set) (above n set v)) ∙ ap length (sym (outside-with n set v h e)) ∙ outside-size n set few small
+
+  pub place-le : placeOf set v ≤ n - setSize set
+  place-le = omega (arith, outside-place set v, sides-size)
+
+  -- the set that v has left has twice as many ways
+  pub rest-size : n - setSize (setBit set v 0) ≡ suc (n - setSize set)
+  rest-size =
+      omega (
+        arith,
+        outside-size n (setBit set v 0) few (omega (arith, clear-le set v)),
+        ap length (outside-without n set v h e),
+        length-append (having 0 v set) (v ∷ above n set v),
+        sides-size,
+      )
+
+  pub stretch-half : stretch n (setBit set v 0) ≡ stretch n set * 2
+  stretch-half = ap (λ (k : ℕ). 2 ^ k) rest-size ∙ omega arith

@@ -1,6 +1,6 @@
 // The numbers of ways: a way of a set fixes the flags outside it.
 ghost use mathlib.Core.Path.{_≡_};
-ghost use Prim.Native.Nat.{_*_, _≤_, _<_};
+ghost use Prim.Native.Nat.{_*_, _<_};
 ghost use lib.ListN.{length};
 ghost use Rattle.folding.specs.Fold.{insertBit, placeOf, Foldable};
 ghost use Rattle.folding.specs.Index.{codeAt};

@@ -15,8 +15,9 @@ add-index-2 c = let s = c .before .before .before .before .before .pre in omega 
 
 returns : tie.Need-returns
 returns c =
-    let s = c .before .before .before .before .before .pre in
-    index-entered (way-few (s .0) _ (s .1)) (s .3) (s .2) (c .before .before .before .code-at .ensures) (c .before .before .code-at2 .ensures) (c .before .hash .ensures .0)
+    let h = c .before in
+    let s = h .before .before .before .before .pre in
+    index-entered (way-few (s .0) _ (s .1)) (s .3) (s .2) (h .before .before .code-at .ensures) (h .before .code-at2 .ensures) (h .hash .ensures .0)
 
 pub enter-spec : {M : Type 1} → statement M
 enter-spec =

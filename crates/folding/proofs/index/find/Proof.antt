@@ -5,7 +5,6 @@ use mathlib.Core.Path.{sym, _∙_}
 use mathlib.Core.Logic.{⊎-elim}
 use native.Mathlib.Omega.{arith}
 use borrow.Author.Needs.{needs}
-use denote.Ref.{now}
 use Rattle.folding.proofs.Insert.{way-few}
 use Rattle.folding.proofs.Chain.{Searched, searched-first, searched-next, searched-found, searched-none}
 use Rattle.folding.proofs.index.find.Statement.{statement}

@@ -1,6 +1,5 @@
 -- `folding::stretch::fold` meets its contract: the ways passed have their codes, and the first of them are entered in the index.
 -- Assumes nothing.
-use mathlib.Core.Path.{sym, _∙_}
 use Prim.Native.Nat.{_≤_, _-_}
 use native.Mathlib.Omega.{arith}
 use borrow.Author.Needs.{needs}

@@ -12,12 +12,12 @@ use Rattle.folding.proofs.ways.code_at.Tie as tie
 insert-bit-requires : tie.Need-insert-bit-requires
 insert-bit-requires c κs =
     let s = c .before .pre in
-    (omega (arith, way-few (s .0) _ (s .1)), place-few (s .0), s .2)
+    (omega (arith, way-few (s .0) _ (s .1)), place-few (s .0), omega (arith, s .2))
 
 shared-slice-read-result : tie.Need-shared-slice-read-result
 shared-slice-read-result c =
     let s = c .before .before .before .pre in
-    rw (c .before .insert-bit .ensures) (way-in (s .0) _ _ (s .1) (s .2))
+    rw (c .before .insert-bit .ensures) (way-in (s .0) _ _ (s .1) (omega (arith, s .2)))
 
 returns : tie.Need-returns
 returns c = ap (λ (x : ℕ). getD (c .before .before .before .args .source .now) x 0) (c .before .insert-bit .ensures)

@@ -5,7 +5,7 @@ use Prim.Native.Nat.{ℕ, _-_, _<_}
 use native.Mathlib.Omega.{arith}
 use borrow.Author.Needs.{needs}
 use Rattle.folding.specs.Fold.{placeOf}
-use Rattle.folding.proofs.Insert.{lower-le, lower-ones, ones-le}
+use Rattle.folding.proofs.Insert.{lower-le, lower-ones, ones-le, ones-small}
 use Rattle.folding.proofs.ways.place_of.Statement.{statement}
 use Rattle.folding.proofs.ways.place_of.Tie as tie
 
@@ -16,7 +16,7 @@ sub-lower : tie.Need-sub-lower
 sub-lower c = lower-le _ _ (small c)
 
 cast-result : tie.Need-cast-result
-cast-result c = omega (arith, lower-ones (c .args .set) (c .args .v) (small c), ones-le (c .args .v) (c .args .set))
+cast-result c = record { fits = ones-small _ (omega arith) }
 
 sub-result : tie.Need-sub-result
 sub-result c = omega (arith, lower-ones (c .args .set) (c .args .v) (small c), ones-le (c .args .v) (c .args .set))
