@@ -14,8 +14,8 @@ use Rattle.rule.specs.Sets.{setSize}
 use Rattle.theory.proofs.Bits.{clear-le}
 use Rattle.theory.proofs.Orders.{in-places-is}
 use Rattle.theory.proofs.Sets.{full-lt, member-lt}
+use Rattle.folding.proofs.Outside.{rest-size}
 use Rattle.packing.specs.Choice.{Asks, Members, Followed}
-use Rattle.packing.proofs.Sizes.{size-clear, size-most}
 
 -- the first i flags stand in their places, and S is still to be asked
 pub record Following (n : ℕ) (first places : List ℕ) (S i : ℕ) : Type 0 where
@@ -23,7 +23,7 @@ pub record Following (n : ℕ) (first places : List ℕ) (S i : ℕ) : Type 0 wh
   pub lent : length taken ≡ i
   pub places-are : places ≡ taken ++ replicate (10 - i) 0
   pub below : S < 2 ^ n
-  pub left : i + setSize S ≤ n
+  pub asked : i ≤ n - setSize S
   pub asks : (rest : List ℕ) → Asks first S rest → Asks first (2 ^ n - 1) (taken ++ rest)
 
 pub following-none : (n : ℕ) (first : List ℕ) → Following n first (replicate 10 0) (2 ^ n - 1) 0
@@ -33,7 +33,7 @@ following-none n first =
       lent = refl;
       places-are = refl;
       below = full-lt n;
-      left = omega (arith, size-most 10 n (2 ^ n - 1) (full-lt n));
+      asked = omega arith;
       asks = λ rest h. h;
     }
 
@@ -47,8 +47,11 @@ module _ {n S i : ℕ} {first places : List ℕ} (m : Members n first) (f : Foll
   pub set-small : S < 1024
   set-small = omega (arith, f .below, pow-mono {i = n} {j = 10} (m .few))
 
+  one-more : S ≢ 0 → n - setSize (setBit S (getD first S 0) 0) ≡ suc (n - setSize S)
+  one-more d = rest-size n S (getD first S 0) (m .few) (f .below) (member-lt n S (getD first S 0) (f .below) (flag-in d)) (flag-in d)
+
   pub place-free : S ≢ 0 → i < 10
-  place-free d = omega (arith, f .left, size-clear 10 S (getD first S 0) (flag-small d) (flag-in d), m .few)
+  place-free d = omega (arith, f .asked, one-more d, m .few)
 
   pub following-more : {r : ℕ} → S ≢ 0 → r ≡ setBit S (getD first S 0) 0 → Following n first (set places i (getD first S 0)) r (i + 1)
   following-more {r} d e =
@@ -61,7 +64,7 @@ module _ {n S i : ℕ} {first places : List ℕ} (m : Members n first) (f : Foll
             ∙ set-at (f .taken) 0 (replicate (10 - (i + 1)) 0) v i (f .lent)
             ∙ sym (append-assoc (f .taken) (v ∷ []) (replicate (10 - (i + 1)) 0));
         below = omega (arith, f .below, clear-le S v);
-        left = rw e (omega (arith, f .left, size-clear 10 S v (flag-small d) (flag-in d)));
+        asked = rw e (omega (arith, f .asked, one-more d));
         asks = λ rest h. rw append-assoc (f .asks (v ∷ rest) (d, refl, rw e at h));
       }
 
@@ -72,5 +75,5 @@ module _ {n S i : ℕ} {first places : List ℕ} (m : Members n first) (f : Foll
         asks = rw append-nil at (f .asks [] z);
         is = f .places-are
             ∙ ap (λ (j : ℕ). f .taken ++ replicate {A = ℕ} (10 - j) 0) (sym (f .lent))
-            ∙ sym (in-places-is (f .taken) (omega (arith, f .lent, f .left, m .few)));
+            ∙ sym (in-places-is (f .taken) (omega (arith, f .lent, f .asked, m .few)));
       }

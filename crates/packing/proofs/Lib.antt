@@ -1,4 +1,3 @@
-pub mod Sizes
 pub mod Stretches
 pub mod Choices
 pub mod Following

@@ -19,8 +19,8 @@ use Rattle.theory.proofs.Bits.{clear-le}
 use Rattle.theory.proofs.Sets.{member-lt}
 use Rattle.sets.proofs.Stretches.{stretches-fill}
 use Rattle.folding.specs.Fold.{placeOf, Foldable, Folds}
+use Rattle.folding.proofs.Outside.{place-le, rest-size, stretch-half}
 use Rattle.packing.specs.Stretch.{stretchOf, PartOf, Ready, Folded}
-use Rattle.packing.proofs.Sizes.{size-clear, size-most, place-most}
 
 -- ---- where they stand
 
@@ -122,32 +122,24 @@ part-most {n} {S} few p = omega (arith, p .start-is, p .end-is, pow-mono {i = n 
 -- ---- a set and the same without one flag
 
 module _ (n S v : ℕ) (w : List ℕ) (few : n ≤ 10) (h : S < 2 ^ n) (l : 3 ^ n ≤ length w) (e : bit S v ≡ 1) where
-  rest-lt : setBit S v 0 < 2 ^ n
-  rest-lt = omega (arith, clear-le S v)
-
-  one-fewer : n - setSize (setBit S v 0) ≡ suc (n - setSize S)
-  one-fewer = omega (arith, size-clear 10 S v (omega (arith, member-lt n S v h e)) e, size-most 10 n S h)
-
-  rest-length : length (stretchOf n w (setBit S v 0)) ≡ 2 ^ suc (n - setSize S)
-  rest-length = stretch-length n (setBit S v 0) w few rest-lt l ∙ ap (_^_ 2) one-fewer
+  rest-length : length (stretchOf n w (setBit S v 0)) ≡ stretch n (setBit S v 0)
+  rest-length = stretch-length n (setBit S v 0) w few (omega (arith, clear-le S v)) l
 
   pub rest-half : length (stretchOf n w (setBit S v 0)) ≡ length (stretchOf n w S) * 2
-  rest-half = rest-length ∙ pow-suc 2 (n - setSize S) ∙ ap (λ (x : ℕ). x * 2) (sym (stretch-length n S w few h l))
-
-  few-outside : n - setSize S ≤ 9
-  few-outside = omega (arith, size-clear 10 S v (omega (arith, member-lt n S v h e)) e)
+  rest-half = rest-length ∙ stretch-half n S v few h (member-lt n S v h e) e ∙ ap (λ (x : ℕ). x * 2) (sym (stretch-length n S w few h l))
 
   pub rest-foldable : Foldable (stretchOf n w (setBit S v 0)) (placeOf S v)
   rest-foldable =
+      let k = rest-size n S v few h (member-lt n S v h e) e in
       record {
         flags = n - setSize S;
-        ways = rest-length;
-        place = place-most 10 n v S h (omega (arith, member-lt n S v h e));
-        few = few-outside;
+        ways = rest-length ∙ ap (_^_ 2) k;
+        place = place-le n S v few h (member-lt n S v h e) e;
+        few = omega arith;
       }
 
   pub rest-most : length (stretchOf n w (setBit S v 0)) ≤ 1024
-  rest-most = omega (arith, rest-length, pow-mono {i = suc (n - setSize S)} {j = 10} (omega (arith, few-outside)))
+  rest-most = omega (arith, rest-length, pow-mono {i = n - setSize (setBit S v 0)} {j = 10} (omega arith))
 
 -- ---- a stretch written
 

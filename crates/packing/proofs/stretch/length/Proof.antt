@@ -6,7 +6,7 @@ use native.Mathlib.Nat.{one-mul}
 use native.Mathlib.Omega.{arith}
 use borrow.Author.Needs.{needs}
 use lib.Pow.{shl-exact, pow-mono}
-use Rattle.packing.proofs.Sizes.{size-most}
+use Rattle.folding.proofs.Outside.{size-most}
 use Rattle.packing.proofs.stretch.length.Statement.{statement}
 use Rattle.packing.proofs.stretch.length.Tie as tie
 
@@ -18,7 +18,7 @@ length-spec =
     tie.close
     (tie.spec
     (λ c κs. omega (arith, c .pre, pow-mono {j = 10} (c .pre .0)))
-    (λ c. omega (arith, size-most 10 _ _ (c .before .pre .1), c .size-of .ensures .is))
+    (λ c. omega (arith, size-most (c .before .args .n) (c .before .args .set) (c .before .pre .0) (c .before .pre .1), c .size-of .ensures .is))
     (λ c. search needs)
     (λ c. search needs)
     returns)
