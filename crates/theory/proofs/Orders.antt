@@ -263,19 +263,24 @@ pub is-fit-order : (n : ℕ) (o : List ℕ) → Order n (flags n o) → ((i : �
 unfolding fitOrder
 is-fit-order n o p z = and-join (order-each-once n o p) (at-rest-zero n o z)
 
+-- up to ten flags in their ten places
+pub in-places-is : (o : List ℕ) → length o ≤ 10 → inPlaces o ≡ o ++ replicate (10 - length o) 0
+in-places-is o h =
+    let k = length o in
+    let q : 10 ≡ 10 - k + k = omega arith in
+    let e : replicate {A = ℕ} 10 0 ≡ replicate (10 - k) 0 ++ replicate k 0 =
+    ap (λ (j : ℕ). replicate {A = ℕ} j 0) q ∙ sym (replicate-append-replicate (10 - k) k 0) in
+    ap (λ (l : List ℕ). take 10 (o ++ l)) e
+    ∙ ap (take 10) (sym (append-assoc o (replicate (10 - k) 0) (replicate k 0)))
+    ∙ take-at (o ++ replicate (10 - k) 0) (replicate k 0) 10 (simp (length-append, length-replicate) (omega arith))
+
 -- an order in its ten places
 module _ (n : ℕ) (o : List ℕ) (h : n ≤ 10) (p : Order n o) where
-  in-places-is : inPlaces o ≡ o ++ replicate (10 - n) 0
-  in-places-is =
-      let q : 10 ≡ 10 - n + n = omega arith in
-      let e : replicate {A = ℕ} 10 0 ≡ replicate (10 - n) 0 ++ replicate n 0 =
-      ap (λ (k : ℕ). replicate {A = ℕ} k 0) q ∙ sym (replicate-append-replicate (10 - n) n 0) in
-      ap (λ (l : List ℕ). take 10 (o ++ l)) e
-      ∙ ap (take 10) (sym (append-assoc o (replicate (10 - n) 0) (replicate n 0)))
-      ∙ take-at (o ++ replicate (10 - n) 0) (replicate n 0) 10 (simp (length-append, length-replicate) (omega (arith, order-length n o p)))
+  places-are : inPlaces o ≡ o ++ replicate (10 - n) 0
+  places-are = rw (← order-length n o p) (in-places-is o (omega (arith, order-length n o p)))
 
   pub flags-in-places : flags n (inPlaces o) ≡ o
-  flags-in-places = ap (take n) in-places-is ∙ take-at o (replicate (10 - n) 0) n (order-length n o p)
+  flags-in-places = ap (take n) places-are ∙ take-at o (replicate (10 - n) 0) n (order-length n o p)
 
   pub in-places-fit : fitOrder n (inPlaces o) ≡ true
   in-places-fit =
@@ -283,7 +288,7 @@ module _ (n : ℕ) (o : List ℕ) (h : n ≤ 10) (p : Order n o) where
       (λ i l k.
       let b : i - n < 10 - n = omega (arith, length-take 10 (o ++ replicate 10 0)) in
       let q : i ≡ length o + (i - n) = omega (arith, order-length n o p) in
-      ap (λ (x : List ℕ). getD x i 0) in-places-is
+      ap (λ (x : List ℕ). getD x i 0) places-are
       ∙ ap (λ (x : ℕ). getD (o ++ replicate (10 - n) 0) x 0) q
       ∙ getD-append-add o (replicate (10 - n) 0) (i - n) 0
       ∙ getD-replicate (10 - n) (i - n) 0 0 b)

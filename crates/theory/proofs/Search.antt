@@ -70,14 +70,14 @@ module _ (c : ℕ → ℕ → ℕ) (n : ℕ) where
   bestFor zero S = 0
   bestFor (suc k) S = valueIn (λ (v : ℕ). c S v + bestFor k (setBit S v 0)) (having 1 n S)
 
-  bestOf : ℕ → ℕ
+  pub bestOf : ℕ → ℕ
   bestOf S = bestFor (2 ^ n - 1) S
 
   -- the cost of asking v first
-  via : ℕ → ℕ → ℕ
+  unfoldable pub via : ℕ → ℕ → ℕ
   via S v = c S v + bestOf (setBit S v 0)
 
-  pickOf : ℕ → ℕ
+  pub pickOf : ℕ → ℕ
   pickOf S = pickIn (via S) (having 1 n S)
 
   none-left : (f : ℕ → ℕ) → valueIn f (having 1 n 0) ≡ 0
@@ -100,7 +100,7 @@ module _ (c : ℕ → ℕ → ℕ) (n : ℕ) where
   member S v h e = having-exactly 1 n S .whole v (member-lt n S v (omega (arith, full-lt n)) e, e)
 
   -- the picked flag, where S has one
-  picked : (S v : ℕ) → S ≤ 2 ^ n - 1 → bit S v ≡ 1 → IsFirst (via S) _≤_ (having 1 n S) (pickOf S) × (bestOf S ≡ via S (pickOf S))
+  pub picked : (S v : ℕ) → S ≤ 2 ^ n - 1 → bit S v ≡ 1 → IsFirst (via S) _≤_ (having 1 n S) (pickOf S) × (bestOf S ≡ via S (pickOf S))
   unfolding pickOf
   picked S v h e = (
     pick-first (via S) (having 1 n S) (having-rising 1 n S) v (member S v h e),
@@ -117,7 +117,7 @@ module _ (c : ℕ → ℕ → ℕ) (n : ℕ) where
       go (v ∷ vs) p = (v, p .sound v (head refl) .1)
 
   -- so best and pick are a solution
-  solved : Solved c (2 ^ n - 1) bestOf pickOf
+  pub solved : Solved c (2 ^ n - 1) bestOf pickOf
   unfolding via
   solved =
       record {
