@@ -1,0 +1,5 @@
+pub mod Stepped
+pub mod Fields
+pub mod Places
+pub mod Laid
+pub mod Aside

@@ -1,0 +1,10 @@
+// Rule files, read and written (document 01, "Rule files"). The reader goes along the file field by field with a cursor by value, lays the records aside, and
+// touches the lent cells only when the whole file is known to be fit.
+mod bytes;
+mod field;
+mod reader;
+mod records;
+mod step;
+
+pub use reader::label;
+pub use reader::read;
