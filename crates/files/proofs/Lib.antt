@@ -3,3 +3,5 @@ pub mod Fields
 pub mod Places
 pub mod Laid
 pub mod Aside
+pub mod Puts
+pub mod Written

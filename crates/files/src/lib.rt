@@ -4,7 +4,10 @@ mod bytes;
 mod field;
 mod reader;
 mod records;
+mod run;
 mod step;
+mod writer;
 
 pub use reader::label;
 pub use reader::read;
+pub use writer::write;
