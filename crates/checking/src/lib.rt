@@ -6,4 +6,5 @@ mod record;
 mod records;
 
 pub use call::check;
+pub use call::is_diagram;
 pub use call::records_refusal;

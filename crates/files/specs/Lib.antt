@@ -1,0 +1,4 @@
+pub mod Step
+pub mod Read
+pub mod Run
+pub mod Write

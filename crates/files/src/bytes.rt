@@ -1,0 +1,33 @@
+ghost use mathlib.Core.Path.{_≡_};
+ghost use Prim.Native.Nat.{_+_, _≤_, _<_};
+ghost use lib.ListN.{length, getD};
+ghost use Rattle.rule.specs.Tests.{each};
+ghost use Rattle.rule.specs.Files.{twoAt, printable};
+
+// A number in two bytes at a place, low byte first.
+pub fn two_at(file: &[u8], at: usize) -> u16
+    requires { ⌜ at + 1 < length (now file) ⌝ }
+    ensures { λ r. ⌜ r ≡ twoAt (now (file .entry)) at ⌝ }
+{
+    let low = file[at] as u16;
+    let high = file[at + 1] as u16;
+    low + 256 * high
+}
+
+// Whether each byte is 20 to 7E, hexadecimal.
+pub fn all_printable(bytes: &[u8]) -> bool
+    ensures { λ r. ⌜ r ≡ each printable (now (bytes .entry)) ⌝ }
+{
+    let mut i = 0;
+    while i < bytes.len() {
+        let b = bytes[i];
+        if b < 0x20 {
+            return false;
+        }
+        if 0x7E < b {
+            return false;
+        }
+        i += 1;
+    }
+    true
+}
