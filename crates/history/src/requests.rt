@@ -1,0 +1,28 @@
+use rule::Node;
+
+// One of the eight calls with its arguments. (The state that open is given stands beside it: an enum holds no array.)
+pub enum Request {
+    Open,
+    Constant(u16),
+    Flag(u16),
+    Join {
+        code: u8,
+        first: Node,
+        second: Node,
+    },
+    Choose {
+        first: Node,
+        second: Node,
+        third: Node,
+    },
+    Fix {
+        rule: Node,
+        flag: u16,
+        value: u16,
+    },
+    Tabulate(Node),
+    Walk {
+        rule: Node,
+        row: u16,
+    },
+}
