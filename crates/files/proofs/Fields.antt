@@ -41,7 +41,7 @@ module _ (file : List ℕ) where
       unfolding mapRead unless
       map-both p q = rw (le-ltb (length file) 1 h, lt-leb 32 (getD file 0 0) g, p, q)
 
-      pub map-without : (bit (getD file 0 0) 3 ≡ 1 → bit (getD file 0 0) 4 ≡ 1 → ⊥) → mapRead file ≡ go (nothingRead 1)
+      pub map-without : (bit (getD file 0 0) 3 ≡ 1 → bit (getD file 0 0) 4 ≡ 1 → ⊥) → mapRead file ≡ go nothingRead
       unfolding mapRead unless
       map-without d = rw (le-ltb (length file) 1 h, lt-leb 32 (getD file 0 0) g, not-both (bit (getD file 0 0) 3) (bit (getD file 0 0) 4) d)
 

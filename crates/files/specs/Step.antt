@@ -58,7 +58,7 @@ pub record Ends (c file : List ℕ) (o : Outcome) (s : Step) : Type 0 where
 
 -- the bit map, of a file that is to be read into cells of a fit length
 unfoldable pub mapRead : List ℕ → Outcome
-mapRead file = unless (pastEnd file 1 ∷ fileMap (getD file 0 0) ∷ []) (nothingRead 1)
+mapRead file = unless (pastEnd file 1 ∷ fileMap (getD file 0 0) ∷ []) nothingRead
 
 -- all fields
 unfoldable pub fieldsRead : List ℕ → List ℕ → Outcome

@@ -23,7 +23,8 @@ use Rattle.theory.proofs.Bits.{below-in, in-below}
 use Rattle.theory.proofs.Perm.{Once, Within, once-keep, once-from, once-map, once-set}
 use Rattle.theory.proofs.Cofactor.{depends-true, differ-depends}
 use Rattle.theory.proofs.Friedman.{level-in, in-level, level-once}
-use Rattle.theory.proofs.Sets.{having, having-exactly}
+use Rattle.theory.specs.Sets.{having}
+use Rattle.theory.proofs.Sets.{having-exactly}
 use Rattle.theory.proofs.Packed.{cost}
 use Rattle.theory.proofs.Restrict.{restrict-all}
 use Rattle.theory.proofs.Canonical.{mix, mix-cofactors}

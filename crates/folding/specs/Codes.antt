@@ -7,7 +7,7 @@ use Prim.Native.Nat.{ℕ, _/_, _%_, _≤_, _<_}
 use lib.ListN.{length, getD}
 use Rattle.rule.specs.Table.{cofactor}
 use Rattle.rule.specs.Sets.{stretch}
-use Rattle.theory.proofs.Sets.{having}
+use Rattle.theory.specs.Sets.{having}
 
 -- a rule with the flags of a list fixed to the bits of i, the first flag to the lowest
 unfoldable pub fixedBy : List ℕ → ℕ → List ℕ → List ℕ

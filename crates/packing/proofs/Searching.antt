@@ -16,11 +16,11 @@ use Rattle.rule.specs.Bits.{bit, setBit}
 use Rattle.rule.specs.Order.{packed, inPlaces}
 use Rattle.rule.specs.Sets.{setAt, stretch, stretchAt}
 use Rattle.theory.proofs.Bits.{bit-same, bit-other, clear-le, clear-lt}
-use Rattle.theory.proofs.Dynamic.{Follows}
+use Rattle.theory.specs.Sets.{Follows, having}
 use Rattle.theory.proofs.Packed.{cost}
 use Rattle.theory.proofs.Search.{bestOf, pickOf, picked, solved, dynamic-packs}
 use Rattle.theory.proofs.Search as search
-use Rattle.theory.proofs.Sets.{full-lt, member-lt, having, having-exactly}
+use Rattle.theory.proofs.Sets.{full-lt, member-lt, having-exactly}
 use Rattle.sets.proofs.Sequence.{in-sequence}
 use Rattle.folding.specs.Fold.{foldCount, placeOf}
 use Rattle.folding.specs.Codes.{Codes, Firsts}

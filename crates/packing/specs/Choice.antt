@@ -7,7 +7,7 @@ use Prim.Native.Nat.{ℕ, _+_, _-_, _*_, _^_, _≤_, _<_}
 use lib.ListN.{length, getD, set}
 use Rattle.rule.specs.Bits.{bit, setBit}
 use Rattle.rule.specs.Order.{packed, inPlaces}
-use Rattle.theory.proofs.Dynamic.{Follows}
+use Rattle.theory.specs.Sets.{Follows}
 use Rattle.folding.specs.Fold.{foldCount, placeOf}
 use Rattle.packing.specs.Stretch.{stretchOf, Folded}
 

@@ -9,11 +9,11 @@ use Prim.Native.Nat.{ℕ, zero, suc, _+_, _*_, _≤_, _<_}
 use lib.Dec.{eqb}
 use lib.ListN.{length, take, replicate}
 use Rattle.rule.specs.Tests.{among}
-use Rattle.rule.specs.Level.{nodesOf, size}
+use Rattle.rule.specs.Level.{size}
 use Rattle.rule.specs.Order.{flags, inPlaces, packed}
 use Rattle.rule.specs.Cells.{width, sound}
 use Rattle.rule.specs.Diagram.{walk, tableOf, diagram}
-use Rattle.rule.specs.Results.{Making, flag, join, choose, fix, madeIn, needed, rootBy, madeNode}
+use Rattle.rule.specs.Results.{Making, flag, join, choose, fix, madeIn, lacking, needed, rootBy, madeNode}
 use Rattle.rule.specs.Refusals.{refusal, buildRows, checkRows, walkRows, tabulateRows, openRows, constantRows, makingRows, packRows}
 use Rattle.rule.specs.Reply.{Reply, reply, leaves}
 
@@ -90,7 +90,7 @@ pub record Holds (s : State) (c t d : List ℕ) : Type 0 where
   pub old : take (s .used * width) d ≡ take (s .used * width) c
   pub kept : (k : ℕ) → k ≤ s .used + 1 → tableOf (s .n) d k ≡ tableOf (s .n) c k
   pub added : (k : ℕ) → s .used ≤ k → k < s .used + needed (s .n) (s .places) c (s .used) t
-      → among (tableOf (s .n) d (k + 2)) (nodesOf (flags (s .n) (s .places)) t) ≡ true
+      → among (tableOf (s .n) d (k + 2)) (lacking (s .n) (s .places) c (s .used) t) ≡ true
   pub rule : tableOf (s .n) d (madeNode (s .n) (s .places) c (s .used) t) ≡ t
 
 -- what becomes of a store's cells under a refusal's number: "It alters nothing lent"

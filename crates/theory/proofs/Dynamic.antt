@@ -8,6 +8,7 @@ use Prim.Native.Nat.{ℕ, _+_, _≤_, _<_}
 use native.Mathlib.Nat.{eq-or-lt-of-le, le-trans}
 use native.Mathlib.Omega.{arith}
 use Rattle.rule.specs.Bits.{bit, setBit}
+use Rattle.theory.specs.Sets.{Follows}
 use Rattle.theory.proofs.Bits.{clear-le}
 
 -- ---- the dictionary
@@ -46,11 +47,6 @@ lex-antisym (v ∷ o) (u ∷ p) (inr l) (inr k) = ap₂ {C = List ℕ} _∷_ (l 
 abbrev pub Lists : ℕ → List ℕ → Type 0
 Lists S [] = S ≡ 0
 Lists S (v ∷ o) = (bit S v ≡ 1) × Lists (setBit S v 0) o
-
--- o asks each flag of S once, at each step the picked one
-abbrev pub Follows : (ℕ → ℕ) → ℕ → List ℕ → Type 0
-Follows pick S [] = S ≡ 0
-Follows pick S (v ∷ o) = (S ≢ 0) × (v ≡ pick S) × Follows pick (setBit S v 0) o
 
 module _ (c : ℕ → ℕ → ℕ) where
   -- the cost of an order of the flags of S

@@ -130,6 +130,9 @@ module _ {n used more : ℕ} {order d : List ℕ} (c : List ℕ) (s : Sound n or
         (λ m. let (j, h, q) = old-in m in omega (arith, record-one s o j k (omega arith) b q)))
 
     -- then they are no more
+    pub added-is : (k : ℕ) → used ≤ k → k < more → In (tableOf n d (k + 2)) (lacking n order c used t)
+    added-is k a b = added-lacking _ (in-added k a b)
+
     pub needed-most : more ≤ used + needed n order c used t
     needed-most = omega (arith, once-length (added n d used more) (lacking n order c used t) added-once added-lacking, added-length)
 

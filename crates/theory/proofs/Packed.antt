@@ -12,8 +12,9 @@ use Rattle.rule.specs.Level.{levelNodes, levelCount, nodesFrom, size}
 use Rattle.rule.specs.Order.{rank}
 use Rattle.theory.proofs.Bits.{clear-le}
 use Rattle.theory.proofs.Friedman.{friedman-set}
-use Rattle.theory.proofs.Dynamic.{Lists, Follows, Lex, lex-antisym, total, Solved, follows-least}
-use Rattle.theory.proofs.Sets.{having, having-exactly, Before, before-full, before-next, member-lt, full-lt, Order, lists-order, order-lists}
+use Rattle.theory.specs.Sets.{Follows, having}
+use Rattle.theory.proofs.Dynamic.{Lists, Lex, lex-antisym, total, Solved, follows-least}
+use Rattle.theory.proofs.Sets.{having-exactly, Before, before-full, before-next, member-lt, full-lt, Order, lists-order, order-lists}
 
 -- o is, of all orders of n flags, the dictionary-first of the lowest rank
 pub record IsPacked (n : ℕ) (t o : List ℕ) : Type 0 where

@@ -13,8 +13,9 @@ use Rattle.theory.proofs.Member.{In, head, not-nil}
 use Rattle.theory.proofs.Bits.{bit-zero, clear-lt}
 use Rattle.theory.proofs.Perm.{Exactly}
 use Rattle.theory.proofs.Least.{Pairwise, Rising, firstOf, IsFirst, first-of}
-use Rattle.theory.proofs.Dynamic.{Follows, Solved, IsLeast, follows-least}
-use Rattle.theory.proofs.Sets.{full-lt, member-lt, empty, having, having-exactly, having-rising}
+use Rattle.theory.specs.Sets.{Follows, having}
+use Rattle.theory.proofs.Dynamic.{Solved, IsLeast, follows-least}
+use Rattle.theory.proofs.Sets.{full-lt, member-lt, empty, having-exactly, having-rising}
 use Rattle.theory.proofs.Packed.{cost, packs, packed-one}
 use Rattle.theory.proofs.Orders.{packed-is}
 

@@ -12,6 +12,7 @@ use lib.Dec.{eqb}
 use borrow.Author.Tests.{eqb-true, eq-eqb}
 use Rattle.rule.specs.Bits.{bit, setBit, below}
 use Rattle.rule.specs.Tests.{keep}
+use Rattle.theory.specs.Sets.{having}
 use Rattle.theory.proofs.Member.{head, tail, not-nil, cast}
 use Rattle.theory.proofs.Bits.{below-in, in-below, bit-lt, bit-zero, bit-high, bits-eq, bit-same, bit-other, clear-le}
 use Rattle.theory.proofs.Tests.{keep-in, in-keep}
@@ -43,10 +44,6 @@ pub empty : (n S : ℕ) → S < 2 ^ n → ((i : ℕ) → bit S i ≢ 1) → S �
 empty n S h d = bits-eq n S 0 h (omega arith) (λ i l. let k = d i in omega (arith, bit-lt S i, bit-zero i))
 
 -- ---- the flags below n that a set has, and those that it lacks
-
--- the flags below n whose bit in S is b, rising
-unfoldable pub having : ℕ → ℕ → ℕ → List ℕ
-having b n S = keep (λ (v : ℕ). eqb (bit S v) b) (below n)
 
 pub having-exactly : (b n S : ℕ) → Exactly (λ (i : ℕ). (i < n) × (bit S i ≡ b)) (having b n S)
 unfolding having

@@ -2,4 +2,5 @@ pub mod Sound
 pub mod Level
 pub mod Child
 pub mod Restrict
+pub mod Sets
 pub mod Growth

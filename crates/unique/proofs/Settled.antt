@@ -20,7 +20,7 @@ use Rattle.theory.proofs.Sets.{Order}
 use Rattle.theory.specs.Sound.{Sound}
 use Rattle.theory.proofs.Sound.{view-sound}
 use Rattle.theory.proofs.Growth.{older}
-use Rattle.theory.proofs.Needed.{needed-least, needed-most, needed-more, made-is}
+use Rattle.theory.proofs.Needed.{added-is, needed-least, needed-most, needed-more, made-is}
 use Rattle.unique.specs.declared.node.Grown.{Grown}
 use Rattle.unique.specs.declared.node.Found.the-variants.{At, Full}
 use Rattle.unique.specs.Search.{Grew}
@@ -68,7 +68,7 @@ module _ (s : State) {c t d : List ℕ} {r : Grown} (x : Sound (s .n) (s .places
           is-sound = subst (λ (k : ℕ). sound (s .n) (s .places) d k ≡ true) is (view-sound (s .n) (s .places) d (r .used) (g .grows .is-sound));
           old = old-kept;
           kept = kept;
-          added = λ k h l. in-among (g .grows .within k h (omega arith));
+          added = λ k h l. in-among (added-is c (g .grows .is-sound) o (g .grows .grown) kept t (g .grows .within) k h (omega arith));
           rule = rw at-node at (a .table);
         };
       }
