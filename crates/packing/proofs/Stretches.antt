@@ -1,15 +1,14 @@
 -- The stretches of the workspace: they do not overlap, all lie within 3^n cells, and writing one keeps the others.
 -- Assumes nothing.
-use mathlib.Core.Path.{_≡_, refl, sym, ap, ap₂, subst, _∙_}
-use mathlib.Core.Logic.{_≢_, _⊎_, inl, inr, ⊎-elim}
+use mathlib.Core.Path.{_≡_, refl, sym, ap, ap₂, _∙_}
+use mathlib.Core.Logic.{_≢_, _⊎_, inl, inr}
 use mathlib.Core.List.{List, _++_}
 use Prim.Native.Nat.{ℕ, zero, suc, _+_, _-_, _*_, _^_, _≤_, _<_}
 use native.Mathlib.Decide.{decLt}
-use native.Mathlib.Nat.{le-refl, eq-or-lt-of-le, add-sub-cancel-left, sub-zero, pow-suc, pow-le-pow-right}
+use native.Mathlib.Nat.{add-sub-cancel-left, sub-zero, pow-le-pow-right}
 use native.Mathlib.Numerals.{add-one}
 use native.Mathlib.Omega.{arith}
 use borrow.Author.Count.{below-more}
-use lib.Count.{onesIn}
 use lib.ListN.{length, getD, take, drop, set, length-append, length-take, length-drop, length-set, List·getD-append}
 use lib.Pow.{pow-mono}
 use lib.Seq.{ext-getD, take-at, length-take-le, getD-take, getD-drop, getD-append-add, getD-set-same, getD-set-other}

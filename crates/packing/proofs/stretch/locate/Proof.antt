@@ -1,6 +1,6 @@
 -- `packing::stretch::locate` meets its contract: the stretch starts at its place and is as long as the set's size says.
 -- Assumes nothing.
-use mathlib.Core.Path.{ap₂, _∙_}
+use mathlib.Core.Path.{ap₂}
 use Prim.Native.Nat.{_+_}
 use native.Mathlib.Omega.{arith}
 use borrow.Author.Needs.{needs}
