@@ -22,7 +22,7 @@ use Rattle.rule.specs.History.{Book, inBook}
 use Rattle.rule.specs.Demands.{Fit, Gives, PackedWell, RuleKept, Demand3}
 use Rattle.theory.proofs.Tests.{and-split}
 use Rattle.theory.proofs.Walks.{table-row}
-use Rattle.theory.proofs.Orders.{fit-order-is, packed-is}
+use Rattle.theory.proofs.Orders.{fit-order-is, packed-fewest}
 use Rattle.demands.proofs.Stands.{accepted-reply, passed, packs}
 use Rattle.demands.proofs.Counts.{counts, equally}
 use Rattle.demands.proofs.Beside.{After, live, shut, steps-from-open}
@@ -102,7 +102,7 @@ packed-well n nodes root t order c w d x r b g =
       fewest = λ other cells used top l o y.
           let f : Fit n other t =
           record { few = ltb-false 10 n few; kept-in = l; order-fits = o; rows = not-false _ rows; bits = not-false _ bits } in
-          omega (arith, counts n other t f cells used top y, packed-is n t .fewest (flags n other) (fit-order-is n other o));
+          omega (arith, counts n other t f cells used top y, packed-fewest n t (flags n other) (fit-order-is n other o));
     }
 
 rule-kept : {s : State} {c : List ℕ} {b : Book} → After s c b → (m : ℕ) (t : List ℕ) → inBook b m ≡ some t → RuleKept s c m t

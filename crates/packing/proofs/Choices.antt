@@ -14,7 +14,8 @@ use Rattle.theory.proofs.Tests.{length-keep}
 use Rattle.folding.specs.Fold.{foldCount, placeOf}
 use Rattle.packing.specs.Stretch.{stretchOf, PartOf, Ready, Lowest}
 use Rattle.packing.specs.Choice.{via, Bounded, CheapestBelow, Cheapest}
-use Rattle.packing.proofs.Stretches.{rest-half, rest-most, ready-flag, ready-rest, source-is, own-is}
+use Rattle.packing.proofs.Stretches.{rest-half, rest-most}
+use Rattle.packing.proofs.Ready.{ready-flag, ready-rest, source-is, own-is}
 
 -- ---- costs
 

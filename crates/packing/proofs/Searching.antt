@@ -27,7 +27,8 @@ use Rattle.folding.proofs.Codes.{codes-table, codes-fold, count-is}
 use Rattle.packing.specs.Stretch.{stretchOf, Placed, PartOf, Ready}
 use Rattle.packing.specs.Choice.{via, Bounded, Solves}
 use Rattle.packing.specs.Order.{Asks, Members, Followed, Searched}
-use Rattle.packing.proofs.Stretches.{fits, ready-flag, ready-rest, ready-kept, written-length, written-own}
+use Rattle.packing.proofs.Stretches.{fits, written-length, written-own}
+use Rattle.packing.proofs.Ready.{ready-flag, ready-rest, ready-kept}
 use Rattle.packing.proofs.Choices.{via-most}
 
 -- ---- the sets passed
@@ -59,7 +60,9 @@ clear-bit S v k (no d) = rw (bit-other S v k 0 (omega arith) d) (le-refl _)
 -- a set's flags taken singly out of it leave sets that are passed
 done-rest : (i S v : ℕ) → i < 1024 → setAt i ≡ S → S < 1024 → bit S v ≡ 1 → Done i (setBit S v 0)
 done-rest i S v h e k b =
-    inr (in-sequence .subsets i (setBit S v 0) h (omega (arith, clear-le S v)) (rw e (subset 10 (setBit S v 0) S (omega (arith, clear-le S v)) (λ j. clear-bit S v j (ℕ-discrete v j)))) (λ q. omega (arith, clear-lt S v b)))
+    let l = clear-le S v in
+    let within : bitAnd (setBit S v 0) S ≡ setBit S v 0 = subset 10 (setBit S v 0) S (omega arith) (λ j. clear-bit S v j (ℕ-discrete v j)) in
+    inr (in-sequence .subsets i (setBit S v 0) h (omega arith) (rw e within) (λ q. omega (arith, clear-lt S v b)))
 
 -- ---- what is known of them
 

@@ -6,7 +6,7 @@ use native.Mathlib.Nat.{pow-suc}
 use native.Mathlib.Numerals.{add-one}
 use native.Mathlib.Omega.{arith}
 use borrow.Author.Needs.{needs}
-use Rattle.packing.proofs.Stretches.{cells-most}
+use Rattle.packing.proofs.Placing.{cells-most}
 use Rattle.packing.proofs.stretch.cell_count.Statement.{statement}
 use Rattle.packing.proofs.stretch.cell_count.Tie as tie
 

@@ -5,7 +5,8 @@ use Prim.Native.Nat.{_+_}
 use native.Mathlib.Omega.{arith}
 use borrow.Author.Needs.{needs}
 use lib.Pow.{pow-mono}
-use Rattle.packing.proofs.Stretches.{fits, cells-most}
+use Rattle.packing.proofs.Stretches.{fits}
+use Rattle.packing.proofs.Placing.{cells-most}
 use Rattle.packing.proofs.stretch.locate.Statement.{statement}
 use Rattle.packing.proofs.stretch.locate.Tie as tie
 

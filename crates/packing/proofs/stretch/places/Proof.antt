@@ -8,7 +8,7 @@ use borrow.Author.Needs.{needs}
 use lib.ListN.{length-replicate}
 use lib.Pow.{pow-mono}
 use Rattle.rule.specs.Sets.{stretchAt}
-use Rattle.packing.proofs.Stretches.{Placing, placing-more, placing-fits}
+use Rattle.packing.proofs.Placing.{Placing, placing-more, placing-fits}
 use Rattle.packing.proofs.stretch.places.Statement.{statement}
 use Rattle.packing.proofs.stretch.places.Tie as tie
 
