@@ -1,9 +1,9 @@
 -- The cheapest flag of a set, flag by flag.
 -- Assumes nothing.
-use mathlib.Core.Path.{_≡_, refl, sym, ap, ap₂, _∙_}
+use mathlib.Core.Path.{_≡_, refl, ap, ap₂, _∙_}
 use mathlib.Core.Logic.{_≢_}
 use mathlib.Core.List.{List}
-use Prim.Native.Nat.{ℕ, _+_, _-_, _*_, _^_, _≤_, _<_}
+use Prim.Native.Nat.{ℕ, _+_, _-_, _*_, _≤_, _<_}
 use native.Mathlib.Nat.{le-refl, le-trans}
 use native.Mathlib.Omega.{arith}
 use borrow.Author.Count.{below-more}
@@ -13,8 +13,9 @@ use Rattle.theory.proofs.Bits.{clear-lt, length-from}
 use Rattle.theory.proofs.Tests.{length-keep}
 use Rattle.folding.specs.Fold.{foldCount, placeOf}
 use Rattle.packing.specs.Stretch.{stretchOf, PartOf, Ready, Lowest}
-use Rattle.packing.specs.Choice.{via, Fits, CheapestBelow, Cheapest}
-use Rattle.packing.proofs.Stretches.{rest-half, rest-most, ready-flag, ready-rest, source-is, own-is}
+use Rattle.packing.specs.Choice.{via, Bounded, CheapestBelow, Cheapest}
+use Rattle.packing.proofs.Stretches.{rest-half, rest-most}
+use Rattle.packing.proofs.Ready.{ready-flag, ready-rest, source-is, own-is}
 
 -- ---- costs
 
@@ -22,7 +23,7 @@ count-most : (s : List ℕ) (p : ℕ) (d : List ℕ) → foldCount s p d ≤ len
 unfolding foldCount
 count-most s p d = le-trans (length-keep _ (below (length d))) (omega (arith, length-from 0 (length d)))
 
-module _ {n S : ℕ} {starts w least : List ℕ} (g : Ready n S starts w) (f : Fits n least) (v : ℕ) (e : bit S v ≡ 1) where
+module _ {n S : ℕ} {starts w least : List ℕ} (g : Ready n S starts w) (f : Bounded n least) (v : ℕ) (e : bit S v ≡ 1) where
   -- a set's cost has room in 32 bits
   pub via-most : via n w least S v ≤ S * 1024
   unfolding via
@@ -30,7 +31,7 @@ module _ {n S : ℕ} {starts w least : List ℕ} (g : Ready n S starts w) (f : F
       let few = g .placed .few in
       omega (
         arith,
-        f .small (setBit S v 0) (ready-rest g v refl),
+        f .most (setBit S v 0) (ready-rest g v refl),
         count-most (stretchOf n w (setBit S v 0)) (placeOf S v) (stretchOf n w S),
         rest-half n S v w few (g .below) (g .lent) e,
         rest-most n S v w few (g .below) (g .lent) e,

@@ -9,13 +9,12 @@ use lib.ListN.{length, getD, set, replicate, length-append}
 use lib.Pow.{pow-mono}
 use lib.Seq.{set-at}
 use Rattle.rule.specs.Bits.{bit, setBit}
-use Rattle.rule.specs.Order.{inPlaces}
 use Rattle.rule.specs.Sets.{setSize}
 use Rattle.theory.proofs.Bits.{clear-le}
 use Rattle.theory.proofs.Orders.{in-places-is}
 use Rattle.theory.proofs.Sets.{full-lt, member-lt}
 use Rattle.folding.proofs.Outside.{rest-size}
-use Rattle.packing.specs.Choice.{Asks, Members, Followed}
+use Rattle.packing.specs.Order.{Asks, Members, Followed}
 
 -- the first i flags stand in their places, and S is still to be asked
 pub record Following (n : ℕ) (first places : List ℕ) (S i : ℕ) : Type 0 where

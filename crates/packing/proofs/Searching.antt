@@ -1,10 +1,10 @@
 -- The recursion over the list of sets: what is known of those that are passed.
 -- Assumes nothing.
-use mathlib.Core.Path.{_≡_, refl, sym, ap, ap₂, subst, _∙_}
+use mathlib.Core.Path.{_≡_, refl, sym, ap, _∙_}
 use mathlib.Core.Logic.{_≢_, _⊎_, inl, inr, ⊎-elim}
 use mathlib.Core.List.{List, [], _∷_, _++_}
-use Prim.Native.Nat.{ℕ, zero, suc, _+_, _-_, _*_, _/_, _%_, _^_, _≤_, _<_}
-use native.Mathlib.Decide.{ℕ-discrete, decLt}
+use Prim.Native.Nat.{ℕ, zero, suc, _+_, _-_, _*_, _/_, _^_, _≤_, _<_}
+use native.Mathlib.Decide.{ℕ-discrete}
 use native.Mathlib.Nat.{le-refl, le-antisymm, eq-or-lt-of-le, sub-zero}
 use native.Mathlib.Omega.{arith}
 use lib.Bits.{bitAnd, and-step, and-zero-l}
@@ -13,21 +13,22 @@ use lib.ListN.{length, getD, set, take, drop, replicate, length-set, length-repl
 use lib.Pow.{pow-mono, pow-pos}
 use lib.Seq.{length-take-le, getD-set-same, getD-set-other}
 use Rattle.rule.specs.Bits.{bit, setBit}
-use Rattle.rule.specs.Order.{packed, inPlaces}
+use Rattle.rule.specs.Order.{inPlaces}
 use Rattle.rule.specs.Sets.{setAt, stretch, stretchAt}
 use Rattle.theory.proofs.Bits.{bit-same, bit-other, clear-le, clear-lt}
 use Rattle.theory.specs.Sets.{Follows, having}
 use Rattle.theory.proofs.Packed.{cost}
 use Rattle.theory.proofs.Search.{bestOf, pickOf, picked, solved, dynamic-packs}
 use Rattle.theory.proofs.Search as search
-use Rattle.theory.proofs.Sets.{full-lt, member-lt, having-exactly}
+use Rattle.theory.proofs.Sets.{full-lt, having-exactly}
 use Rattle.sets.proofs.Sequence.{in-sequence}
-use Rattle.folding.specs.Fold.{foldCount, placeOf}
-use Rattle.folding.specs.Codes.{Codes, Firsts}
+use Rattle.folding.specs.Codes.{Codes}
 use Rattle.folding.proofs.Codes.{codes-table, codes-fold, count-is}
-use Rattle.packing.specs.Stretch.{stretchOf, Placed, PartOf, Ready, Folded}
-use Rattle.packing.specs.Choice.{via, Fits, Cheapest, Solves, Asks, Members, Followed, Searched}
-use Rattle.packing.proofs.Stretches.{fits, ready-flag, ready-rest, ready-kept, written-length, written-own}
+use Rattle.packing.specs.Stretch.{stretchOf, Placed, PartOf, Ready}
+use Rattle.packing.specs.Choice.{via, Bounded, Solves}
+use Rattle.packing.specs.Order.{Asks, Members, Followed, Searched}
+use Rattle.packing.proofs.Stretches.{fits, written-length, written-own}
+use Rattle.packing.proofs.Ready.{ready-flag, ready-rest, ready-kept}
 use Rattle.packing.proofs.Choices.{via-most}
 
 -- ---- the sets passed
@@ -59,7 +60,9 @@ clear-bit S v k (no d) = rw (bit-other S v k 0 (omega arith) d) (le-refl _)
 -- a set's flags taken singly out of it leave sets that are passed
 done-rest : (i S v : ℕ) → i < 1024 → setAt i ≡ S → S < 1024 → bit S v ≡ 1 → Done i (setBit S v 0)
 done-rest i S v h e k b =
-    inr (in-sequence .subsets i (setBit S v 0) h (omega (arith, clear-le S v)) (rw e (subset 10 (setBit S v 0) S (omega (arith, clear-le S v)) (λ j. clear-bit S v j (ℕ-discrete v j)))) (λ q. omega (arith, clear-lt S v b)))
+    let l = clear-le S v in
+    let within : bitAnd (setBit S v 0) S ≡ setBit S v 0 = subset 10 (setBit S v 0) S (omega arith) (λ j. clear-bit S v j (ℕ-discrete v j)) in
+    inr (in-sequence .subsets i (setBit S v 0) h (omega arith) (rw e within) (λ q. omega (arith, clear-lt S v b)))
 
 -- ---- what is known of them
 
@@ -71,13 +74,13 @@ module _ (n : ℕ) (t : List ℕ) where
   abbrev firstOf : ℕ → ℕ
   firstOf S = pickOf (cost n t) n S
 
-  -- the stretches, least costs and first flags of the sets before place i of the list; the workspace once was v
-  pub record Searching (v w least first : List ℕ) (i : ℕ) : Type 0 where
-    pub lent : length w ≡ length v
+  -- the stretches, least costs and first flags of the sets before place i of the list; the workspace was w₀ when the first was solved
+  pub record Searching (w₀ w least first : List ℕ) (i : ℕ) : Type 0 where
+    pub lent : length w ≡ length w₀
     pub room : 3 ^ n ≤ length w
     pub leasts : length least ≡ 1024
     pub firsts : length first ≡ 1024
-    pub small : Fits n least
+    pub bounded : Bounded n least
     pub codes : (S : ℕ) → S < 2 ^ n → Done i S → Codes n t S (stretchOf n w S)
     pub least-is : (S : ℕ) → S < 2 ^ n → Done i S → getD least S 0 ≡ leastOf S
     pub first-is : (S : ℕ) → S < 2 ^ n → S ≢ 0 → Done i S → getD first S 0 ≡ firstOf S
@@ -126,7 +129,7 @@ module _ (n : ℕ) (t : List ℕ) (few : n ≤ 10) (fit : length t ≡ 2 ^ n) wh
         room = omega (arith, begun-lent w l e);
         leasts = length-replicate {A = ℕ} 1024 0;
         firsts = length-replicate {A = ℕ} 1024 0;
-        small = record { small = λ S h. omega (arith, getD-replicate {A = ℕ} 1024 S 0 0 (sets-small few h)) };
+        bounded = record { most = λ S h. omega (arith, getD-replicate {A = ℕ} 1024 S 0 0 (sets-small few h)) };
         codes = λ S h d. ⊎-elim
             (λ (z : S ≡ 0). rw (z, written-own w few (pow-pos n) l none-part ys k, e) (codes-table n t fit))
             (λ (z : (j : ℕ) × (j < 0) × (setAt j ≡ S)). absurd (omega (arith, z .1)))
@@ -140,19 +143,19 @@ module _ (n : ℕ) (t : List ℕ) (few : n ≤ 10) (fit : length t ≡ 2 ^ n) wh
 
   -- ---- a set that is solved
 
-  module _ {v w least first : List ℕ} {i S : ℕ} (s : Searching n t v w least first i) (h : i < 1024) (e : setAt i ≡ S) where
+  module _ {w₀ w least first : List ℕ} {i S : ℕ} (s : Searching n t w₀ w least first i) (h : i < 1024) (e : setAt i ≡ S) where
     pub ready : {starts : List ℕ} → Placed n starts → S ≢ 0 → S < length t → Ready n S starts w
     ready p d k = record { placed = p; below = omega (arith, fit); some = d; lent = s .room }
 
     -- a set that is passed over: the empty one, or one with flags from n on
-    pub searching-pass : (S ≡ 0) ⊎ (length t ≤ S) → Searching n t v w least first (i + 1)
+    pub searching-pass : (S ≡ 0) ⊎ (length t ≤ S) → Searching n t w₀ w least first (i + 1)
     searching-pass o =
         record {
           lent = s .lent;
           room = s .room;
           leasts = s .leasts;
           firsts = s .firsts;
-          small = s .small;
+          bounded = s .bounded;
           codes = λ T k d. s .codes T k (old T k (done-next i T d));
           least-is = λ T k d. s .least-is T k (old T k (done-next i T d));
           first-is = λ T k z d. s .first-is T k z (old T k (done-next i T d));
@@ -214,16 +217,16 @@ module _ (n : ℕ) (t : List ℕ) (few : n ≤ 10) (fit : length t ≡ 2 ^ n) wh
       first-place = omega (arith, s .firsts, sets-small few (g .below))
 
       cost-small : x .cost ≤ S * 1024
-      cost-small = omega (arith, x .cheapest .is, via-most {w = y} (ready-kept g (x .folded .lent)) (s .small) (x .flag) (x .cheapest .member))
+      cost-small = omega (arith, x .cheapest .is, via-most {w = y} (ready-kept g (x .folded .lent)) (s .bounded) (x .flag) (x .cheapest .member))
 
-      pub searching-more : Searching n t v y least′ first′ (i + 1)
+      pub searching-more : Searching n t w₀ y least′ first′ (i + 1)
       searching-more =
           record {
             lent = x .folded .lent ∙ s .lent;
             room = omega (arith, x .folded .lent, s .room);
             leasts = ap length (x .least-is) ∙ length-set least S (x .cost) ∙ s .leasts;
             firsts = ap length (x .first-is) ∙ length-set first S (x .flag) ∙ s .firsts;
-            small = record { small = λ T k. rw (x .least-is) (small-at T k (ℕ-discrete T S)) };
+            bounded = record { most = λ T k. rw (x .least-is) (most-at T k (ℕ-discrete T S)) };
             codes = λ T k d. codes-at T k d (ℕ-discrete T S);
             least-is = λ T k d. rw (x .least-is) (least-at T k d (ℕ-discrete T S));
             first-is = λ T k z d. rw (x .first-is) (first-at T k z d (ℕ-discrete T S));
@@ -245,13 +248,13 @@ module _ (n : ℕ) (t : List ℕ) (few : n ≤ 10) (fit : length t ≡ 2 ^ n) wh
           first-at T k z d (yes q) = rw (q, getD-set-same first S (x .flag) 0 first-place) (chosen .1)
           first-at T k z d (no q) = getD-set-other first S T (x .flag) 0 q ∙ s .first-is T k z (old T q (done-next i T d))
 
-          small-at : (T : ℕ) → T < 2 ^ n → Dec (T ≡ S) → getD (set least S (x .cost)) T 0 ≤ T * 1024
-          small-at T k (yes q) = rw (q, getD-set-same least S (x .cost) 0 own-place) cost-small
-          small-at T k (no q) = rw (getD-set-other least S T (x .cost) 0 q) (s .small .small T k)
+          most-at : (T : ℕ) → T < 2 ^ n → Dec (T ≡ S) → getD (set least S (x .cost)) T 0 ≤ T * 1024
+          most-at T k (yes q) = rw (q, getD-set-same least S (x .cost) 0 own-place) cost-small
+          most-at T k (no q) = rw (getD-set-other least S T (x .cost) 0 q) (s .bounded .most T k)
 
   -- ---- at the end
 
-  module _ {v w least first : List ℕ} {i : ℕ} (s : Searching n t v w least first i) (end : 1024 ≤ i) where
+  module _ {w₀ w least first : List ℕ} {i : ℕ} (s : Searching n t w₀ w least first i) (end : 1024 ≤ i) where
     first-all : (S : ℕ) → S < 2 ^ n → S ≢ 0 → getD first S 0 ≡ firstOf n t S
     first-all S h d = s .first-is S h d (done-all S i (sets-small few h) end)
 
@@ -263,7 +266,7 @@ module _ (n : ℕ) (t : List ℕ) (few : n ≤ 10) (fit : length t ≡ 2 ^ n) wh
     follows S [] h f = f
     follows S (u ∷ o) h f = (f .0, f .1 ∙ first-all S h (f .0), follows (setBit S u 0) o (omega (arith, clear-le S u)) (f .2))
 
-    pub searched : {u places : List ℕ} → length v ≡ length u → Followed n first places → Searched n t u places w
+    pub searched : {v places : List ℕ} → length w₀ ≡ length v → Followed n first places → Searched n t v places w
     searched l f =
         record {
           order = f .is

@@ -1,3 +1,4 @@
 pub mod Stretch
 pub mod Choice
+pub mod Order
 pub mod Lent

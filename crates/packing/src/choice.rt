@@ -1,9 +1,10 @@
 // The flag of a set that is asked first.
 use crate::stretch;
+use crate::stretch::SETS;
 ghost use mathlib.Core.Path.{_≡_};
 ghost use Rattle.rule.specs.Bits.{bit};
 ghost use Rattle.packing.specs.Stretch.{Ready, Lowest};
-ghost use Rattle.packing.specs.Choice.{Fits, via, Cheapest};
+ghost use Rattle.packing.specs.Choice.{Bounded, via, Cheapest};
 
 // A flag of a set, and the least cost of the orders that ask it first.
 pub struct Choice {
@@ -16,11 +17,11 @@ fn via(
     n: u8,
     set: u16,
     v: u16,
-    places: &[usize; 1024],
+    places: &[usize; SETS],
     workspace: &[u16],
-    least: &[u32; 1024],
+    least: &[u32; SETS],
 ) -> u32
-    requires { ⌜ Ready n set (now places) (now workspace) × Fits n (now least) × (bit set v ≡ 1) ⌝ }
+    requires { ⌜ Ready n set (now places) (now workspace) × Bounded n (now least) × (bit set v ≡ 1) ⌝ }
     ensures { λ r. ⌜ r ≡ via n (now (workspace .entry)) (now (least .entry)) set v ⌝ }
 {
     let rest = bits::set_bit(set, v, 0);
@@ -43,11 +44,11 @@ pub fn cheapest(
     n: u8,
     set: u16,
     v: u16,
-    places: &[usize; 1024],
+    places: &[usize; SETS],
     workspace: &[u16],
-    least: &[u32; 1024],
+    least: &[u32; SETS],
 ) -> Choice
-    requires { ⌜ Ready n set (now places) (now workspace) × Fits n (now least) × Lowest set v ⌝ }
+    requires { ⌜ Ready n set (now places) (now workspace) × Bounded n (now least) × Lowest set v ⌝ }
     ensures { λ r. ⌜ Cheapest n (now (workspace .entry)) (now (least .entry)) set (r .cost) (r .flag) ⌝ }
 {
     let mut flag = v;

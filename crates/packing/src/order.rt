@@ -1,9 +1,10 @@
 // The order that the first flags of all sets give.
+use crate::stretch::SETS;
 use rule::Order;
-ghost use Rattle.packing.specs.Choice.{Members, Followed};
+ghost use Rattle.packing.specs.Order.{Members, Followed};
 
 // From the set of all n flags down to the empty one, each set's first flag.
-pub fn follow(n: u8, first: &[u16; 1024]) -> Order
+pub fn follow(n: u8, first: &[u16; SETS]) -> Order
     requires { ⌜ Members n (now first) ⌝ }
     ensures { λ r. ⌜ Followed n (now (first .entry)) (r .places) ⌝ }
 {

@@ -2,11 +2,12 @@
 use crate::order::follow;
 use crate::step::solve;
 use crate::stretch;
+use crate::stretch::SETS;
 use rule::Order;
 ghost use mathlib.Core.Path.{_≡_};
 ghost use Prim.Native.Nat.{_≤_, _^_};
 ghost use lib.ListN.{length};
-ghost use Rattle.packing.specs.Choice.{Searched};
+ghost use Rattle.packing.specs.Order.{Searched};
 
 // Writes a table over a stretch that is as long: the codes of a table's rows are the rows.
 fn begin(table: &[u8], stretch: &mut [u16])
@@ -26,12 +27,12 @@ pub fn search(n: u8, table: &[u8], workspace: &mut [u16]) -> Order
     ensures { λ r. ⌜ Searched n (now (table .entry)) (now (workspace .entry)) (r .places) (now (workspace .exit)) ⌝ }
 {
     let places = stretch::places(n);
-    let mut least = [0u32; 1024];
-    let mut first = [0u16; 1024];
+    let mut least = [0u32; SETS];
+    let mut first = [0u16; SETS];
     let rows = table.len();
     begin(table, &mut workspace[0..rows]);
     let mut i = 0;
-    while i < 1024 {
+    while i < SETS {
         let set = sets::set_at(i);
         if set != 0 && (set as usize) < rows {
             solve(n, set, &places, workspace, &mut least, &mut first);

@@ -1,12 +1,14 @@
 // One set of the recursion: its stretch, its least cost and the flag that is asked first.
 use crate::choice::cheapest;
 use crate::stretch;
+use crate::stretch::LONGEST;
+use crate::stretch::SETS;
 ghost use mathlib.Core.Path.{_≡_};
 ghost use mathlib.Core.Logic.{_≢_};
 ghost use Prim.Native.Nat.{_≤_, _<_, _^_};
 ghost use Rattle.rule.specs.Bits.{bit};
 ghost use Rattle.packing.specs.Stretch.{Ready, Lowest, Folded};
-ghost use Rattle.packing.specs.Choice.{Fits, Solves};
+ghost use Rattle.packing.specs.Choice.{Bounded, Solves};
 
 // The smallest flag of a set of flags below n.
 fn lowest(n: u8, set: u16) -> u16
@@ -24,11 +26,11 @@ fn lowest(n: u8, set: u16) -> u16
 }
 
 // Folds the stretch of the set without v into the set's own. The one that is read is held aside: only one part of the workspace can be lent to be written.
-fn fold(n: u8, set: u16, v: u16, places: &[usize; 1024], workspace: &mut [u16])
+fn fold(n: u8, set: u16, v: u16, places: &[usize; SETS], workspace: &mut [u16])
     requires { ⌜ Ready n set (now places) (now workspace) × (bit set v ≡ 1) ⌝ }
     ensures { λ _. ⌜ Folded n set v (now (workspace .entry)) (now (workspace .exit)) ⌝ }
 {
-    let mut held = [0u16; 1024];
+    let mut held = [0u16; LONGEST];
     let source = stretch::locate(n, places, bits::set_bit(set, v, 0));
     let from = source.start;
     let to = source.end;
@@ -48,12 +50,12 @@ fn fold(n: u8, set: u16, v: u16, places: &[usize; 1024], workspace: &mut [u16])
 pub fn solve(
     n: u8,
     set: u16,
-    places: &[usize; 1024],
+    places: &[usize; SETS],
     workspace: &mut [u16],
-    least: &mut [u32; 1024],
-    first: &mut [u16; 1024],
+    least: &mut [u32; SETS],
+    first: &mut [u16; SETS],
 )
-    requires { ⌜ Ready n set (now places) (now workspace) × Fits n (now least) ⌝ }
+    requires { ⌜ Ready n set (now places) (now workspace) × Bounded n (now least) ⌝ }
     ensures { λ _. ⌜ Solves n set (now (workspace .entry)) (now (least .entry)) (now (first .entry)) (now (workspace .exit)) (now (least .exit)) (now (first .exit)) ⌝ }
 {
     let v = lowest(n, set);

@@ -4,6 +4,11 @@ ghost use Prim.Native.Nat.{_≤_, _<_, _^_};
 ghost use Rattle.rule.specs.Sets.{stretch};
 ghost use Rattle.packing.specs.Stretch.{Placed, PartOf};
 
+// The sets of ten flags, and the cells of the longest stretch, that of the empty set.
+pub const SETS: usize = 1024;
+
+pub const LONGEST: usize = 1024;
+
 // A part of the workspace: its first cell, and the one behind its last.
 pub struct Part {
     pub start: usize,
@@ -19,11 +24,11 @@ fn length(n: u8, set: u16) -> usize
 }
 
 // Where each set's stretch starts: behind those of the sets with smaller numbers.
-pub fn places(n: u8) -> [usize; 1024]
+pub fn places(n: u8) -> [usize; SETS]
     requires { ⌜ n ≤ 10 ⌝ }
     ensures { λ r. ⌜ Placed n r ⌝ }
 {
-    let mut starts = [0usize; 1024];
+    let mut starts = [0usize; SETS];
     let end = arguments::row_count(n) as u16;
     let mut at: usize = 0;
     let mut set: u16 = 0;
@@ -36,7 +41,7 @@ pub fn places(n: u8) -> [usize; 1024]
 }
 
 // The stretch of a set.
-pub fn locate(n: u8, places: &[usize; 1024], set: u16) -> Part
+pub fn locate(n: u8, places: &[usize; SETS], set: u16) -> Part
     requires { ⌜ Placed n (now places) × (set < 2 ^ n) ⌝ }
     ensures { λ r. ⌜ PartOf n set (r .start) (r .end) ⌝ }
 {

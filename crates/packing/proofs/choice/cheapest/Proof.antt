@@ -6,7 +6,7 @@ use mathlib.Core.Logic.{⊎-elim}
 use native.Mathlib.Omega.{arith}
 use borrow.Author.Needs.{needs}
 use Rattle.packing.specs.Choice.{CheapestBelow}
-use Rattle.packing.proofs.Stretches.{ready-small-flag}
+use Rattle.packing.proofs.Ready.{ready-small-flag}
 use Rattle.packing.proofs.Choices.{cheapest-first, cheapest-pass, cheapest-keep, cheapest-take, cheapest-all}
 use Rattle.packing.proofs.choice.cheapest.Statement.{statement}
 use Rattle.packing.proofs.choice.cheapest.Tie as tie

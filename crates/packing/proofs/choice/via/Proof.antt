@@ -3,7 +3,7 @@
 use native.Mathlib.Omega.{arith}
 use borrow.Author.Needs.{needs}
 use lib.Pow.{pow-mono}
-use Rattle.packing.proofs.Stretches.{ready-small, ready-small-flag, ready-rest, can-fold}
+use Rattle.packing.proofs.Ready.{ready-small, ready-small-flag, ready-rest, can-fold}
 use Rattle.packing.proofs.Choices.{via-most, via-is}
 use Rattle.packing.proofs.choice.via.Statement.{statement}
 use Rattle.packing.proofs.choice.via.Tie as tie

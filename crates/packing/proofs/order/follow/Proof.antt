@@ -1,6 +1,5 @@
 -- `packing::order::follow` meets its contract: with each flag the set that is left gets smaller.
 -- Assumes nothing.
-use mathlib.Core.Path.{_∙_}
 use native.Mathlib.Omega.{arith}
 use borrow.Author.Needs.{needs}
 use lib.Pow.{pow-mono}

@@ -1,13 +1,11 @@
 -- `packing::search::search` meets its contract: the sets before place i of the list are solved.
 -- Assumes nothing.
 use Prim.Native.Nat.{_≤_, _-_}
-use mathlib.Core.Path.{_≡_, sym, ap, _∙_}
+use mathlib.Core.Path.{sym, _∙_}
 use mathlib.Core.Logic.{inl, inr, ⊎-elim}
 use native.Mathlib.Omega.{arith}
 use borrow.Author.Needs.{needs}
 use borrow.Author.Tests.{ltb-true, ltb-false}
-use lib.ListN.{length}
-use lib.Pow.{pow-mono}
 use Rattle.packing.proofs.Searching.{Searching, table-within, table-fits, begun-lent, searching-none, ready, searching-pass, searching-more, members, searched}
 use Rattle.packing.proofs.search.search.Statement.{statement}
 use Rattle.packing.proofs.search.search.Tie as tie
@@ -41,7 +39,7 @@ solve-requires c κs =
     let placed = at .before .before .before .before .before in
     let p = placed .before .before .before .pre in
     let s = at .loop .inv .0 in
-    (ready _ _ (p .0) (p .1) s (solving .before .before .before .loop-test .taken) (sym (solving .before .before .set-at .ensures .is)) (placed .places .ensures) (solving .before .if1 .taken) (ltb-true _ _ (solving .if2 .taken)), s .small)
+    (ready _ _ (p .0) (p .1) s (solving .before .before .before .loop-test .taken) (sym (solving .before .before .set-at .ensures .is)) (placed .places .ensures) (solving .before .if1 .taken) (ltb-true _ _ (solving .if2 .taken)), s .bounded)
 
 loop-again : tie.Need-loop-again Inv-loop μ-loop
 loop-again c =

@@ -2,7 +2,8 @@
 -- Assumes nothing.
 use native.Mathlib.Omega.{arith}
 use borrow.Author.Needs.{needs}
-use Rattle.packing.proofs.Stretches.{part-most, ready-small, ready-small-flag, ready-rest, held-within, can-fold-held, folded-held}
+use Rattle.packing.proofs.Stretches.{part-most}
+use Rattle.packing.proofs.Ready.{ready-small, ready-small-flag, ready-rest, held-within, can-fold-held, folded-held}
 use Rattle.packing.proofs.step.fold.Statement.{statement}
 use Rattle.packing.proofs.step.fold.Tie as tie
 

@@ -3,7 +3,7 @@
 use mathlib.Core.Path.{refl}
 use native.Mathlib.Omega.{arith}
 use borrow.Author.Needs.{needs}
-use Rattle.packing.proofs.Stretches.{ready-small, ready-kept}
+use Rattle.packing.proofs.Ready.{ready-small, ready-kept}
 use Rattle.packing.proofs.step.solve.Statement.{statement}
 use Rattle.packing.proofs.step.solve.Tie as tie
 

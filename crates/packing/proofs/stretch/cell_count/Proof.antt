@@ -1,12 +1,12 @@
 -- `packing::stretch::cell_count` meets its contract: one factor for each flag passed.
 -- Assumes nothing.
 use Prim.Native.Nat.{_≤_, _-_, _^_}
-use mathlib.Core.Path.{_≡_, refl, sym, ap, _∙_}
+use mathlib.Core.Path.{_≡_, refl, ap, _∙_}
 use native.Mathlib.Nat.{pow-suc}
 use native.Mathlib.Numerals.{add-one}
 use native.Mathlib.Omega.{arith}
 use borrow.Author.Needs.{needs}
-use Rattle.packing.proofs.Stretches.{cells-most}
+use Rattle.packing.proofs.Placing.{cells-most}
 use Rattle.packing.proofs.stretch.cell_count.Statement.{statement}
 use Rattle.packing.proofs.stretch.cell_count.Tie as tie
 

@@ -1,11 +1,12 @@
 -- `packing::stretch::locate` meets its contract: the stretch starts at its place and is as long as the set's size says.
 -- Assumes nothing.
-use mathlib.Core.Path.{ap₂, _∙_}
+use mathlib.Core.Path.{ap₂}
 use Prim.Native.Nat.{_+_}
 use native.Mathlib.Omega.{arith}
 use borrow.Author.Needs.{needs}
 use lib.Pow.{pow-mono}
-use Rattle.packing.proofs.Stretches.{fits, cells-most}
+use Rattle.packing.proofs.Stretches.{fits}
+use Rattle.packing.proofs.Placing.{cells-most}
 use Rattle.packing.proofs.stretch.locate.Statement.{statement}
 use Rattle.packing.proofs.stretch.locate.Tie as tie
 

@@ -1,14 +1,14 @@
 -- `packing::stretch::places` meets its contract: the next place is behind the stretches of the sets passed.
 -- Assumes nothing.
 use Prim.Native.Nat.{ℕ, _-_, _^_, _<_}
-use mathlib.Core.Path.{refl, sym}
+use mathlib.Core.Path.{refl}
 use native.Mathlib.Nat.{not-suc-le-zero}
 use native.Mathlib.Omega.{arith}
 use borrow.Author.Needs.{needs}
 use lib.ListN.{length-replicate}
 use lib.Pow.{pow-mono}
 use Rattle.rule.specs.Sets.{stretchAt}
-use Rattle.packing.proofs.Stretches.{Placing, placing-more, placing-fits}
+use Rattle.packing.proofs.Placing.{Placing, placing-more, placing-fits}
 use Rattle.packing.proofs.stretch.places.Statement.{statement}
 use Rattle.packing.proofs.stretch.places.Tie as tie
 
