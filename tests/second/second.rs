@@ -12,6 +12,7 @@ mod scribe;
 mod store;
 mod worked;
 
+use std::collections::HashSet;
 use std::io::Read;
 
 /// The most cells that may be lent, and those lent to the reader here; a record takes three.
@@ -122,11 +123,34 @@ fn flag_count(table: &[usize]) -> usize {
     table.len().trailing_zeros() as usize
 }
 
+/// "Nodes asking flag v number the distinct rules that depend on v and arise by fixing the flags
+/// before v in all ways." With the flag asked first as the highest bit of a row, fixing flags cuts
+/// the table into pieces, and one depends on the next flag if its halves differ.
+fn count_nodes(table: &[usize], order: &[usize]) -> usize {
+    let n = order.len();
+    let seen = |row: usize| (0..n).map(|k| ((row >> (n - 1 - k)) & 1) << order[k]).sum::<usize>();
+    let rows: Vec<u8> = (0..table.len()).map(|row| table[seen(row)] as u8).collect();
+    let asking = |k: usize| {
+        let half = rows.len() >> (k + 1);
+        let pieces = rows.chunks(2 * half).filter(|piece| piece[..half] != piece[half..]);
+        pieces.collect::<HashSet<_>>().len()
+    };
+    (0..n).map(asking).sum()
+}
+
 /// "The order has the fewest nodes of all n! orders; of several, the one first by dictionary
-/// comparison": min_by_key gives the first of equals.
+/// comparison": min_by_key gives the first of equals. From seven flags on the nodes are counted,
+/// and only the order found is drawn.
 fn draw_packed(table: &[usize]) -> Drawing {
-    let drawings = orders(flag_count(table), &[]).into_iter().map(|order| draw(table, &order));
-    drawings.min_by_key(|drawing| drawing.nodes).expect("every n has an order")
+    let all = orders(flag_count(table), &[]).into_iter();
+    let drawing = if flag_count(table) <= 6 {
+        all.map(|order| draw(table, &order)).min_by_key(|drawing| drawing.nodes)
+    } else {
+        all.min_by_key(|order| count_nodes(table, order)).map(|order| draw(table, &order))
+    };
+    let drawing = drawing.expect("every n has an order");
+    assert_eq!(drawing.nodes, count_nodes(table, &drawing.order), "counted otherwise");
+    drawing
 }
 
 /// "give the first that applies": the tests stand in their sequence.
@@ -401,24 +425,42 @@ fn vector_tables(dice: &mut Dice) -> Vec<Vec<usize>> {
     }
     (3..=6).for_each(|n| tables.extend(tables_with_form(n, dice)));
     tables.extend((0..400).map(|i| dice.table(3 + i % 4, [1, 2, 4, 6, 7][i % 5])));
-    let mut met = std::collections::HashSet::new();
-    tables.retain(|table| met.insert(table.clone()));
+    tables = each_once(tables);
     tables.truncate(400);
     tables
+}
+
+fn each_once(mut tables: Vec<Vec<usize>>) -> Vec<Vec<usize>> {
+    let mut met = HashSet::new();
+    tables.retain(|table| met.insert(table.clone()));
+    tables
+}
+
+/// Tables of seven and eight flags, to be packed too.
+fn large_tables() -> Vec<Vec<usize>> {
+    let mut dice = Dice(0x0B5E_55ED_CAFE_0078);
+    let mut tables = tables_with_form(7, &mut dice);
+    tables.extend([1, 2, 4, 4, 6, 7].map(|eighths| dice.table(7, eighths)));
+    let pairs = table_from(8, |row| row & (row >> 1) & 0b01010101 != 0);
+    tables.push(recast(&pairs, 8, &dice.order(8)));
+    tables.push(recast(&dice.table(6, 4), 8, &dice.order(8)[..6]));
+    tables.extend([1, 4, 4, 6].map(|eighths| dice.table(8, eighths)));
+    each_once(tables)
 }
 
 fn vectors(directory: &str) -> std::io::Result<()> {
     let mut dice = Dice(0x0B5E_55ED_CAFE_0001);
     let tables = vector_tables(&mut dice);
     let [mut pack_in, mut pack_out, mut build_in, mut build_out] = [(); 4].map(|_| String::new());
-    for table in &tables {
+    for table in tables.iter().chain(&large_tables()) {
         let Drawing { order, nodes, flags, .. } = draw_packed(table);
         let (order, flags) = (phrase("order", &order), phrase("flags", &flags));
-        pack_in += &format!("{}\n", digits(table));
+        pack_in += &format!("p {}\n", digits(table));
         pack_out += &format!("nodes {nodes} {order} {flags}\n");
     }
     let mut case = |table: &[usize], order: &[usize]| {
         let Drawing { nodes, flags, .. } = draw(table, order);
+        assert_eq!(nodes, count_nodes(table, order), "counted otherwise");
         build_in += &format!("d {} {}\n", digits(table), digits(order));
         build_out += &format!("nodes {nodes} {}\n", phrase("flags", &flags));
     };

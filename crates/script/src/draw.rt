@@ -10,7 +10,7 @@ use rule::Order;
 use rule::Said;
 
 // The flags of a table of so many rows, 11 where it has none.
-fn flag_count(rows: usize) -> u8 {
+pub fn flag_count(rows: usize) -> u8 {
     let mut n: u8 = 0;
     while n < 11 {
         if (1usize << n) == rows {
@@ -54,7 +54,7 @@ fn same_rows(a: &[u8], b: &[u8]) -> bool {
 }
 
 // Whether the diagram has so many nodes and tabulates to the table, by way of lent bytes.
-fn agrees(
+pub fn agrees(
     n: u8,
     table: &[u8],
     order: Order,
@@ -102,7 +102,7 @@ fn walks(n: u8, table: &[u8], order: Order, cells: &[u16], used: u16, root: Node
     true
 }
 
-fn flag_counts(n: u8, cells: &[u16], used: u16) {
+pub fn flag_counts(n: u8, cells: &[u16], used: u16) {
     print::text(b" flags");
     let mut v: u8 = 0;
     while v < n {

@@ -5,10 +5,13 @@
 //     c N ORDER USED ROOT CELL CELL ..     check
 //     w N ORDER USED NODE ROW CELL ..      walk
 //     t N ORDER USED NODE BYTES CELL ..    tabulate into so many lent bytes
+//     p TABLE                              pack the table: its nodes, its order, and the nodes asking each flag
+//     q N CELLS WORKSPACE TABLE            pack into so many lent cells, with 7 in each, by so many of workspace, with 5 in each, and what these have then
 //
 // A table is a digit for each row, row 0 first. An order is a digit for each flag, and what is not written of its ten places is 0.
 mod draw;
 mod one;
+mod pack;
 mod print;
 mod read;
 

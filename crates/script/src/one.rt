@@ -13,7 +13,7 @@ use rule::Order;
 use rule::Said;
 
 // The low byte of a number that was read: a flag count.
-fn flags(value: u16) -> u8 {
+pub fn flags(value: u16) -> u8 {
     (value % 256) as u8
 }
 

@@ -1,5 +1,6 @@
 use crate::draw::draw;
 use crate::one;
+use crate::pack;
 use crate::print;
 use libc::STDIN_FILENO;
 use rule::Order;
@@ -124,6 +125,8 @@ fn line(text: &[u8]) {
         b'c' => one::check(text, 2),
         b'w' => one::walk(text, 2),
         b't' => one::tabulate(text, 2),
+        b'p' => pack::pack(text, 2),
+        b'q' => pack::pack_lent(text, 2),
         _ => print::unknown(),
     }
     print::line_end();

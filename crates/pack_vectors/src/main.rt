@@ -1,0 +1,4 @@
+// The second program's packed tables, for which it tried every order.
+fn main() {
+    script::run();
+}

@@ -1,0 +1,16 @@
+-- `script::pack::each_is` meets its contract: it counts up to the length.
+-- Assumes nothing.
+use Prim.Native.Nat.{_-_, _≤_}
+use borrow.Author.Needs.{needs}
+use lib.ListN.{length}
+use Rattle.script.proofs.pack.each_is.Statement.{statement}
+use Rattle.script.proofs.pack.each_is.Tie as tie
+
+abbrev Inv-loop : tie.InvT-loop
+Inv-loop cells value i₀ i = (i ≤ length cells)
+
+abbrev μ-loop : tie.MeasureT-loop
+μ-loop cells value i₀ i = length cells - i
+
+pub each-is-spec : {M : Type 1} → statement M
+each-is-spec = tie.close (tie.spec Inv-loop μ-loop (λ c. search needs) (λ c. search needs) (λ c. search needs) (λ c. search needs) (λ c. search needs) (λ c. search needs) (λ c. search needs) (λ c. search needs))
