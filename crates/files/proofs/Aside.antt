@@ -1,15 +1,15 @@
 -- A file read and tested aside: its fields together, what follows them, and the records in the first of the held cells.
 -- Assumes nothing.
-use mathlib.Core.Path.{_≡_, refl, sym, ap, subst, _∙_}
+use mathlib.Core.Path.{_≡_, refl, sym, ap, _∙_}
 use mathlib.Core.Bool.{Bool, true, false, not}
-use mathlib.Core.List.{List, [], _∷_, _++_, map}
+use mathlib.Core.List.{List, _∷_, _++_}
 use Prim.Native.Nat.{ℕ, zero, suc, _+_, _-_, _≤_, _<_}
 use native.Mathlib.Nat.{sub-zero}
 use native.Mathlib.Omega.{arith}
 use borrow.Author.Tests.{lt-ltb, le-ltb, not-true, not-false}
 use lib.ListN.{length, getD, take, drop, replicate, length-append, length-replicate, length-drop}
 use lib.Seq.{take-at}
-use Rattle.rule.specs.Bits.{bit, below}
+use Rattle.rule.specs.Bits.{bit}
 use Rattle.rule.specs.Cells.{mostCells, fitCells, room}
 use Rattle.rule.specs.Diagram.{diagram}
 use Rattle.rule.specs.Files.{FileRecord, Reading, count, recordAt, Outcome, stop, go, andThen, unless, fieldIf, readMap, readFlags, readOrder, readLabel, readRecords, rootRead, recordCells, laidIn, readEnd, reading, Reads, labelOf, noPart}

@@ -2,18 +2,17 @@
 -- Assumes nothing.
 use mathlib.Core.Path.{_≡_, refl, sym, ap, _∙_}
 use mathlib.Core.Bool.{Bool, true, false, not, _&&_}
-use mathlib.Core.List.{List, [], _∷_, map}
-use Prim.Native.Nat.{ℕ, zero, suc, _+_, _-_, _*_, _≤_, _<_}
+use mathlib.Core.List.{List, map}
+use Prim.Native.Nat.{ℕ, _+_, _-_, _*_, _≤_, _<_}
 use native.Mathlib.Omega.{arith}
-use borrow.Author.Tests.{eqb-true, not-true, not-false, eq-eqb, ne-eqb, lt-ltb, le-ltb, le-leb, lt-leb}
+use borrow.Author.Tests.{eqb-true, not-true, not-false, ne-eqb, lt-ltb, le-ltb, le-leb, lt-leb}
 use lib.Dec.{eqb}
 use lib.ListN.{length, getD, take, drop}
-use Rattle.rule.specs.Bits.{bit, from, below}
+use Rattle.rule.specs.Bits.{bit, below}
 use Rattle.rule.specs.Tests.{each}
 use Rattle.rule.specs.Order.{places, inPlaces, rising, fitOrder}
 use Rattle.rule.specs.Cells.{room}
-use Rattle.rule.specs.Refusals.{Row, refusal}
-use Rattle.rule.specs.Files.{Reading, Part, Outcome, stop, go, unless, nothingRead, recordAt, twoAt, bytesOf, printable, readFlags, readOrder, readLabel, readRecords}
+use Rattle.rule.specs.Files.{Reading, stop, go, unless, nothingRead, recordAt, twoAt, printable, readFlags, readOrder, readLabel, readRecords}
 use Rattle.files.specs.Step.{mapRead}
 
 -- ---- the bit map

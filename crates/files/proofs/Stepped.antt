@@ -8,8 +8,7 @@ use native.Mathlib.Omega.{arith}
 use borrow.Author.Tests.{eq-eqb, ne-eqb, not-true, not-false}
 use lib.Dec.{eqb}
 use Rattle.rule.specs.Bits.{bit}
-use Rattle.rule.specs.Refusals.{Row, refusal}
-use Rattle.rule.specs.Files.{Reading, Outcome, stop, go, andThen, readOr, unless, fieldIf}
+use Rattle.rule.specs.Files.{Reading, Outcome, stop, go, andThen, readOr, fieldIf}
 use Rattle.theory.proofs.Bits.{bit-lt}
 use Rattle.files.specs.declared.step.Step.{Step}
 use Rattle.files.specs.Step.{nothing, readingOf, outcomeOf, Before, Whole}

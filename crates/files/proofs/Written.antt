@@ -5,17 +5,17 @@ use mathlib.Core.Bool.{Bool, true, false, not, _&&_, _||_}
 use mathlib.Core.List.{List, [], _∷_, _++_, append-assoc}
 use Prim.Native.Nat.{ℕ, zero, suc, _+_, _*_, _≤_, _<_}
 use native.Mathlib.Omega.{arith}
-use borrow.Author.Tests.{eq-eqb, ne-eqb, lt-ltb, le-ltb, ltb-false, not-true, not-false}
-use lib.Dec.{eqb, leb, ltb}
+use borrow.Author.Tests.{ne-eqb, lt-ltb, le-ltb, ltb-false, not-true, not-false}
+use lib.Dec.{leb, ltb}
 use lib.ListN.{length, drop, length-append}
 use lib.Seq.{length-take-le}
 use Rattle.rule.specs.Tests.{each}
 use Rattle.rule.specs.Order.{places, flags, fitOrder}
-use Rattle.rule.specs.Cells.{fitCells, room, flagAt, sound}
+use Rattle.rule.specs.Cells.{fitCells, sound}
 use Rattle.rule.specs.Diagram.{allReached}
-use Rattle.rule.specs.Refusals.{refusal, flagCount, orderPlaces, cells, diagramRecords, node, checkRows}
-use Rattle.rule.specs.Reply.{Reply, accepted, refused, reply, leaves}
-use Rattle.rule.specs.Files.{two, printable, longestLabel, longLabel, labelBytes, bitIf, ifSome, recordBytes, recordsIn, fileOf, writeRows, Writes}
+use Rattle.rule.specs.Refusals.{refusal, orderPlaces, cells, diagramRecords, node, checkRows}
+use Rattle.rule.specs.Reply.{accepted, refused, reply, leaves}
+use Rattle.rule.specs.Files.{two, printable, longestLabel, labelBytes, bitIf, ifSome, recordBytes, recordsIn, fileOf, writeRows, Writes}
 use Rattle.theory.proofs.Refused.{row-passed, refused-more, passed-more, refused-reply}
 use Rattle.theory.proofs.Sound.{sound-view}
 use Rattle.files.specs.Run.{over, Puts}

@@ -6,7 +6,7 @@ use Prim.Native.Nat.{ℕ, _+_, _*_, _≤_}
 use lib.ListN.{length, getD, replicate}
 use Rattle.rule.specs.Bits.{bit, below}
 use Rattle.rule.specs.Cells.{room}
-use Rattle.rule.specs.Files.{Reading, Outcome, andThen, readOr, unless, fieldIf, nothingRead, pastEnd, fileMap, recordAt, readMap, readFlags, readOrder, readLabel, readRecords}
+use Rattle.rule.specs.Files.{Reading, Outcome, andThen, readOr, unless, fieldIf, nothingRead, pastEnd, fileMap, recordAt, readFlags, readOrder, readLabel, readRecords}
 use Rattle.files.specs.declared.step.Cursor.{Cursor}
 use Rattle.files.specs.declared.step.Step.{Step}
 

@@ -2,6 +2,8 @@
 // touches the lent cells only when the whole file is known to be fit.
 mod bytes;
 mod field;
+mod label_field;
+mod order;
 mod reader;
 mod records;
 mod run;

@@ -1,10 +1,10 @@
 use crate::field::bit_map;
 use crate::field::read_flags;
-use crate::field::read_label;
 use crate::field::read_map;
-use crate::field::read_order;
-use crate::field::read_records;
+use crate::label_field::read_label;
+use crate::order::read_order;
 use crate::records::lay;
+use crate::records::read_records;
 use crate::step::Cursor;
 use crate::step::Step;
 use crate::step::nothing;
@@ -116,11 +116,11 @@ pub fn label<'a>(file: &'a [u8], cells: &[u16]) -> &'a [u8]
     ensures { λ r. ⌜ Label (file .entry) (now (cells .entry)) r ⌝ }
 {
     let mut held = [0u16; cells::MOST];
-    let step = read_aside(file, cells, &mut held);
-    if step.refused != 0 {
+    let found = read_aside(file, cells, &mut held);
+    if found.refused != 0 {
         return &file[0..0];
     }
-    let cursor = step.cursor;
+    let cursor = found.cursor;
     let start = cursor.label;
     let end = start + cursor.size;
     &file[start..end]

@@ -9,13 +9,13 @@ use rule::Node;
 use rule::Order;
 use rule::Written;
 ghost use mathlib.Core.Path.{_≡_};
-ghost use mathlib.Core.List.{[], _∷_, _++_};
+ghost use mathlib.Core.List.{_∷_, _++_};
 ghost use Prim.Native.Nat.{ℕ, _+_, _*_, _≤_, _<_};
 ghost use lib.ListN.{length};
 ghost use Rattle.rule.specs.Cells.{room, flagAt};
 ghost use Rattle.rule.specs.Refusals.{refusal};
 ghost use Rattle.rule.specs.Answers.{writtenReply};
-ghost use Rattle.rule.specs.Files.{two, recordBytes, recordsIn, ifSome, bitIf, mapByte, fileOf, writeRows, Writes};
+ghost use Rattle.rule.specs.Files.{two, recordBytes, recordsIn, ifSome, bitIf, fileOf, writeRows, Writes};
 ghost use Rattle.files.specs.Run.{Puts};
 ghost use Rattle.files.specs.Write.{mapOf, sizeOf, ownRows, Writable};
 

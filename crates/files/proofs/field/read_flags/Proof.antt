@@ -1,6 +1,5 @@
 -- `files::field::read_flags` meets its contract: each way is a test of Fields.antt.
 -- Assumes nothing.
-use mathlib.Core.Path.{refl}
 use native.Mathlib.Omega.{arith}
 use borrow.Author.Needs.{needs}
 use denote.Ref.{now}

@@ -1,12 +1,11 @@
 -- `files::records::lay` meets its contract: the first k records are laid, and the cells behind them are still 0.
 -- Assumes nothing.
-use mathlib.Core.Path.{_≡_, refl, sym, ap, _∙_}
-use mathlib.Core.List.{List, map}
+use mathlib.Core.Path.{_≡_, ap, _∙_}
+use mathlib.Core.List.{map}
 use Prim.Native.Nat.{ℕ, _+_, _-_, _*_, _≤_, _<_}
 use native.Mathlib.Omega.{arith}
 use borrow.Author.Needs.{needs}
 use denote.Ref.{now}
-use lib.ListN.{length}
 use Rattle.rule.specs.Bits.{below, from}
 use Rattle.rule.specs.Cells.{room}
 use Rattle.rule.specs.Files.{recordAt, laidIn}

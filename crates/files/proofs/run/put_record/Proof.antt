@@ -1,13 +1,7 @@
 -- `files::run::put_record` meets its contract: the flag, the low node and the high node, one behind the other.
 -- Assumes nothing.
-use mathlib.Core.Path.{_≡_}
-use mathlib.Core.List.{[], _∷_}
 use native.Mathlib.Omega.{arith}
 use borrow.Author.Needs.{needs}
-use denote.Ref.{now}
-use Rattle.rule.specs.Cells.{flagAt, lowAt, highAt}
-use Rattle.rule.specs.Files.{two}
-use Rattle.files.specs.Run.{Puts}
 use Rattle.files.proofs.Puts.{puts-more}
 use Rattle.files.proofs.run.put_record.Statement.{statement}
 use Rattle.files.proofs.run.put_record.Tie as tie

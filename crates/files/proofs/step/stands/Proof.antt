@@ -1,6 +1,5 @@
 -- `files::step::stands` meets its contract.
 -- Assumes nothing.
-use mathlib.Core.Path.{_∙_, sym}
 use borrow.Author.Needs.{needs}
 use borrow.Author.Tests.{eq-eqb, ne-eqb}
 use Rattle.files.proofs.step.stands.Statement.{statement}

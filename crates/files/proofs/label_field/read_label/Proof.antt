@@ -1,4 +1,4 @@
--- `files::field::read_label` meets its contract: each way is a test of Fields.antt. The length is a byte, so it is never too long.
+-- `files::label_field::read_label` meets its contract: each way is a test of Fields.antt. The length is a byte, so it is never too long.
 -- Assumes nothing.
 use native.Mathlib.Omega.{arith}
 use borrow.Author.Needs.{needs}
@@ -6,8 +6,8 @@ use denote.Ref.{now}
 use Rattle.rule.specs.Files.{readLabel}
 use Rattle.files.proofs.Stepped.{skipped, refuses, reads-on, nothing-before}
 use Rattle.files.proofs.Fields.{label-end, label-none, label-past, label-unprintable, label-read}
-use Rattle.files.proofs.field.read_label.Statement.{statement}
-use Rattle.files.proofs.field.read_label.Tie as tie
+use Rattle.files.proofs.label_field.read_label.Statement.{statement}
+use Rattle.files.proofs.label_field.read_label.Tie as tie
 
 returns : tie.Need-returns
 returns c =

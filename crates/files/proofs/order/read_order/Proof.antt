@@ -1,4 +1,4 @@
--- `files::field::read_order` meets its contract: each way is a test of Fields.antt.
+-- `files::order::read_order` meets its contract: each way is a test of Fields.antt.
 -- Assumes nothing.
 use native.Mathlib.Omega.{arith}
 use borrow.Author.Needs.{needs}
@@ -6,8 +6,8 @@ use denote.Ref.{now}
 use Rattle.rule.specs.Files.{readOrder}
 use Rattle.files.proofs.Stepped.{skipped, refuses, reads-on, nothing-before}
 use Rattle.files.proofs.Fields.{order-end, order-unfit, order-read}
-use Rattle.files.proofs.field.read_order.Statement.{statement}
-use Rattle.files.proofs.field.read_order.Tie as tie
+use Rattle.files.proofs.order.read_order.Statement.{statement}
+use Rattle.files.proofs.order.read_order.Tie as tie
 
 returns : tie.Need-returns
 returns c =

@@ -1,4 +1,4 @@
--- `files::field::order_at` meets its contract: the places are those of the i flags that are read so far.
+-- `files::order::order_at` meets its contract: the places are those of the i flags that are read so far.
 -- Assumes nothing.
 use mathlib.Core.Path.{_≡_, refl, _∙_, ap}
 use mathlib.Core.List.{List}
@@ -9,8 +9,8 @@ use denote.Ref.{now}
 use lib.ListN.{getD, take, drop, set}
 use Rattle.rule.specs.Order.{inPlaces}
 use Rattle.files.proofs.Places.{places-more}
-use Rattle.files.proofs.field.order_at.Statement.{statement}
-use Rattle.files.proofs.field.order_at.Tie as tie
+use Rattle.files.proofs.order.order_at.Statement.{statement}
+use Rattle.files.proofs.order.order_at.Tie as tie
 
 abbrev Inv-loop : tie.InvT-loop
 Inv-loop file at n l₀ i₀ l i = (i ≤ n) × (l ≡ inPlaces (take i (drop at file)))

@@ -1,4 +1,4 @@
--- `files::field::read_records` meets its contract: each way is a test of Fields.antt.
+-- `files::records::read_records` meets its contract: each way is a test of Fields.antt.
 -- Assumes nothing.
 use native.Mathlib.Omega.{arith}
 use borrow.Author.Needs.{needs}
@@ -6,8 +6,8 @@ use denote.Ref.{now}
 use Rattle.rule.specs.Files.{readRecords}
 use Rattle.files.proofs.Stepped.{skipped, refuses, reads-on, nothing-whole, before-whole}
 use Rattle.files.proofs.Fields.{records-end, records-none, records-many, records-past, records-read}
-use Rattle.files.proofs.field.read_records.Statement.{statement}
-use Rattle.files.proofs.field.read_records.Tie as tie
+use Rattle.files.proofs.records.read_records.Statement.{statement}
+use Rattle.files.proofs.records.read_records.Tie as tie
 
 returns : tie.Need-returns
 returns c =
