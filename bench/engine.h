@@ -21,6 +21,10 @@ DIAGRAM_CALLS(old_)
 uint64_t engine_join(uint8_t n, const uint8_t *order, uint16_t *cells, size_t length, uint16_t used, uint8_t code, uint16_t first,
                      uint16_t second) __attribute__((weak));
 
+// Pack: the order goes into ten lent bytes.
+uint64_t engine_pack(uint8_t n, const uint8_t *table, size_t rows, uint8_t *order, uint16_t *cells, size_t length, uint16_t *workspace,
+                     size_t space);
+
 // The parts of an answer.
 static inline unsigned refusal(uint64_t answer) { return answer & 0xff; }
 static inline unsigned first_value(uint64_t answer) { return answer >> 8 & 0xffff; }

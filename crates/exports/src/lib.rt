@@ -4,9 +4,10 @@
 // are. An order is a reference to its ten bytes, a node its number. C passes a slice as a pointer and the number of its elements. The answer is one number
 // (`values`): the refusal, 0 where the call is accepted, then the values that it hands back.
 //
-// To add a call: its function in the file of its kind (`diagram`, `kept`; pack, with the order written into ten lent bytes), a `pub use` here, and its line in bench/engine.h.
+// To add a call: its function in the file of its kind (`diagram`, `kept`, `packed`), a `pub use` here, and its line in bench/engine.h.
 mod diagram;
 mod kept;
+mod packed;
 mod values;
 
 pub use diagram::engine_build;
@@ -14,3 +15,4 @@ pub use diagram::engine_check;
 pub use diagram::engine_tabulate;
 pub use diagram::engine_walk;
 pub use kept::engine_join;
+pub use packed::engine_pack;
