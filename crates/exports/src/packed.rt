@@ -12,8 +12,9 @@ pub extern "C" fn engine_pack(
     workspace: &mut [u16],
 ) -> u64 {
     let packed = packing::pack(n, table, cells, workspace);
-    *places = packed.order.places;
+    let found = packed.order.places;
     let drawn = packed.answer;
+    *places = found;
     match drawn {
         Drawn::Diagram { nodes, root } => answer(0, nodes, root.number),
         Drawn::Refused(k) => answer(k, 0, 0),
