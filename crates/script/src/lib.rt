@@ -9,7 +9,7 @@
 // A table is a digit for each row, row 0 first. An order is a digit for each flag, and what is not written of its ten places is 0.
 mod draw;
 mod one;
-mod print;
-mod read;
+pub mod print;
+pub mod read;
 
 pub use read::run;
