@@ -12,7 +12,7 @@
 mod draw;
 mod one;
 mod pack;
-mod print;
-mod read;
+pub mod print;
+pub mod read;
 
 pub use read::run;

@@ -8,11 +8,16 @@ pub fn wide(byte: u8) -> u64
     byte as u64
 }
 
+// A number.
+pub fn value(value: u16) {
+    io::print_decimal(STDOUT_FILENO, value as u64);
+}
+
 // A word, a blank and a number.
-pub fn number(word: &[u8], value: u16) {
+pub fn number(word: &[u8], number: u16) {
     io::write_all(STDOUT_FILENO, word);
     io::write_all(STDOUT_FILENO, b" ");
-    io::print_decimal(STDOUT_FILENO, value as u64);
+    value(number);
 }
 
 pub fn refused(number: u8) {
@@ -24,13 +29,23 @@ pub fn line_end() {
     io::write_all(STDOUT_FILENO, b"\n");
 }
 
-// The rows of a table, a digit each.
+// A row's digit as a character.
+fn character(digit: u8) -> u8 {
+    if digit < 10 { 48 + digit } else { b'?' }
+}
+
+// The rows of a table, a digit each: 2,048 of them at most.
 pub fn rows(table: &[u8]) {
+    let mut text = [0u8; 2048];
     let mut i = 0;
-    while i < table.len() {
-        io::print_decimal(STDOUT_FILENO, wide(table[i]));
+    while i < 2048 {
+        if table.len() <= i {
+            break;
+        }
+        text[i] = character(table[i]);
         i += 1;
     }
+    io::write_all(STDOUT_FILENO, &text[0..i]);
 }
 
 // Said of a line that asks for more than the script can lend.

@@ -99,7 +99,7 @@ pub fn cells(text: &[u8], at: usize, out: &mut [u16]) -> usize
 }
 
 // Where the line at a place ends: at its line end, or at the end of the text.
-fn line_end(text: &[u8], at: usize) -> usize
+pub fn line_end(text: &[u8], at: usize) -> usize
     requires { ⌜ at ≤ length (now text) ⌝ }
     ensures { λ r. ⌜ (at ≤ r) × (r ≤ length (now (text .entry))) ⌝ }
 {

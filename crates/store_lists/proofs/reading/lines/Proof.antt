@@ -1,0 +1,17 @@
+-- `store_lists::reading::lines` meets its contract: each line moves it on.
+-- Assumes nothing.
+use Prim.Native.Nat.{_-_, _≤_}
+use borrow.Author.Needs.{needs}
+use lib.ListN.{length}
+use mathlib.Core.Path.{_≡_}
+use Rattle.store_lists.proofs.reading.lines.Statement.{statement}
+use Rattle.store_lists.proofs.reading.lines.Tie as tie
+
+abbrev Inv-loop : tie.InvT-loop
+Inv-loop text cells₀ s₀ at₀ cells s at = (0 ≤ at) × (length cells ≡ length cells₀)
+
+abbrev μ-loop : tie.MeasureT-loop
+μ-loop text cells₀ s₀ at₀ cells s at = length text - at
+
+pub lines-spec : {M : Type 1} → statement M
+lines-spec = tie.close (tie.spec Inv-loop μ-loop (λ c κs. search needs) (λ c. search needs) (λ c κs. search needs) (λ c. search needs) (λ c. search needs) (λ c. search needs) (λ c κs. search needs) (λ c. search needs) (λ c. search needs) (λ c. search needs) (λ c. search needs) (λ c. search needs))

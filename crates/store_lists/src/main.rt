@@ -1,0 +1,9 @@
+// The second program's lists of store calls, played on the engine's store. tests/second/play.rs has the language, and says what it must write.
+mod ending;
+mod playing;
+mod reading;
+mod session;
+
+fn main() {
+    reading::run();
+}

@@ -1,0 +1,138 @@
+// The lines of standard input, and the words of a line.
+use crate::ending::end;
+use crate::playing::call;
+use crate::session::NONE;
+use crate::session::Session;
+use libc::STDIN_FILENO;
+use rule::Order;
+use script::print;
+use script::read::Word;
+use script::read::line_end;
+use script::read::number;
+use script::read::order;
+use store::Store;
+
+// The cells that a list is lent at most: three more than the paper allows.
+const MOST: usize = 3075;
+
+// A number as a byte, 255 where it is above that: as a flag count and as an operator, refused either way.
+pub fn byte(value: u16) -> u8 {
+    if value < 256 { value as u8 } else { 255 }
+}
+
+// The place behind the word at a place and the blank after it.
+fn behind(text: &[u8], at: usize) -> usize {
+    let mut i = at;
+    while i < text.len() {
+        if text[i] == b' ' {
+            return i + 1;
+        }
+        i += 1;
+    }
+    i
+}
+
+// The number at a place; of `@j` the node that call j handed back.
+pub fn given(s: Session, text: &[u8], at: usize) -> Word {
+    if text.len() <= at {
+        return number(text, at);
+    }
+    if text[at] != b'@' {
+        return number(text, at);
+    }
+    let call = number(text, at + 1);
+    Word {
+        value: s.node(call.value as usize),
+        next: call.next,
+    }
+}
+
+// N ORDER USED
+pub fn state(text: &[u8], at: usize) -> Store {
+    let n = number(text, at);
+    let used = number(text, behind(text, n.next));
+    Store {
+        n: byte(n.value),
+        order: order(text, n.next),
+        used: used.value,
+    }
+}
+
+// A state of zeros, and so many lent cells.
+fn fresh(lent: usize) -> Session {
+    let order = Order { places: [0u8; 10] };
+    let store = Store {
+        n: 0,
+        order,
+        used: 0,
+    };
+    Session {
+        store,
+        lent,
+        is_open: false,
+        count: 0,
+        nodes: [NONE; 40],
+        inner: [false; 40],
+    }
+}
+
+// Writes 7 to each cell.
+fn fill(cells: &mut [u16]) {
+    let mut i = 0;
+    while i < cells.len() {
+        cells[i] = 7;
+        i += 1;
+    }
+}
+
+// list CELLS
+fn begin(text: &[u8], cells: &mut [u16]) -> Session {
+    fill(cells);
+    let lent = number(text, 5);
+    fresh(lent.value as usize)
+}
+
+// One line, and what it prints.
+fn line(s: Session, text: &[u8], cells: &mut [u16]) -> Session {
+    if text.len() == 0 {
+        return s;
+    }
+    let command = text[0];
+    if command == b'l' {
+        return begin(text, cells);
+    }
+    let lent = s.lent;
+    if cells.len() < lent {
+        print::too_long();
+        print::line_end();
+        return s;
+    }
+    if command == b'e' {
+        end(s, &cells[0..lent]);
+        return s;
+    }
+    call(s, text, &mut cells[0..lent], command)
+}
+
+fn lines(text: &[u8], cells: &mut [u16]) {
+    let mut s = fresh(0);
+    let mut at = 0;
+    while at < text.len() {
+        let end = line_end(text, at);
+        s = line(s, &text[at..end], cells);
+        at = end + 1;
+    }
+}
+
+// Every line of standard input, or that there is more of it than can be read.
+pub fn run() {
+    let mut buffer = io::large_buffer();
+    let n = io::read_full(STDIN_FILENO, &mut buffer);
+    if buffer.len() <= n {
+        print::too_long();
+        print::line_end();
+        return;
+    }
+    let mut cells = [0u16; MOST];
+    lines(&buffer[..n], &mut cells);
+}
