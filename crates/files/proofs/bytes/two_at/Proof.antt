@@ -15,11 +15,10 @@ two-at-spec =
     (λ c. search needs)
     (λ c. search needs)
     (λ c. omega (arith, c .shared-slice-known2 .given (c .before .before .args .at + 1)))
-    (λ c. omega (arith, c .shared-slice-known2 .given (c .before .before .args .at + 1)))
     (λ c.
-    omega (
-      arith,
-      c .before .shared-slice-known .given (c .before .before .args .at),
-      c .shared-slice-known2 .given (c .before .before .args .at + 1),
-    ))
+    let at = c .before .before .args .at in
+    omega (arith, c .before .shared-slice-known .given at, c .shared-slice-known2 .given (at + 1)))
+    (λ c.
+    let at = c .before .before .args .at in
+    omega (arith, c .before .shared-slice-known .given at, c .shared-slice-known2 .given (at + 1)))
     (λ c. search needs))
