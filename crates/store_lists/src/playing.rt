@@ -1,24 +1,62 @@
-// The calls of a list, each given the state and the cells as the last one left them.
+// The calls of a list, each made through `history::step` and given the state and the cells as the last one left them.
 use crate::reading::byte;
 use crate::reading::given;
 use crate::reading::state;
 use crate::session::NONE;
 use crate::session::Session;
+use history::Answer;
+use history::Reached;
+use history::Request;
+use history::step;
 use rule::Done;
 use rule::Made;
 use rule::Node;
 use rule::Said;
 use script::print;
 use script::read::number;
-use store::Passed;
 use store::Store;
-use store::Stored;
+
+// A number that no refusal has, for an answer of another kind than the call's.
+const NO_NUMBER: u8 = 255;
+
+// The answer of open and tabulate.
+fn done_of(reached: Reached) -> Done {
+    let answer = reached.answer;
+    match answer {
+        Answer::Done(done) => done,
+        _ => Done::Refused(NO_NUMBER),
+    }
+}
+
+// The answer of a call that makes a rule.
+fn made_of(reached: Reached) -> Made {
+    let answer = reached.answer;
+    match answer {
+        Answer::Made(made) => made,
+        _ => Made::Refused(NO_NUMBER),
+    }
+}
+
+// The answer of a walk.
+fn said_of(reached: Reached) -> Said {
+    let answer = reached.answer;
+    match answer {
+        Answer::Said(said) => said,
+        _ => Said::Refused(NO_NUMBER),
+    }
+}
+
+// A call that is lent no bytes. Open is given the state `given`, any other that of the session.
+fn made_by(s: Session, given: Store, request: Request, cells: &mut [u16]) -> Reached {
+    let mut none = [0u8; 1];
+    step(s.store, given, request, cells, &mut none[0..0])
+}
 
 // o N ORDER USED
 fn open(mut s: Session, text: &[u8], cells: &mut [u16]) -> Session {
-    let passed = state(text, 2).open(cells);
-    let answer = passed.answer;
-    let store = passed.store;
+    let reached = made_by(s, state(text, 2), Request::Open, cells);
+    let answer = done_of(reached);
+    let store = reached.store;
     print::text(b"open ");
     match answer {
         Done::Accepted => {
@@ -36,20 +74,31 @@ fn open(mut s: Session, text: &[u8], cells: &mut [u16]) -> Session {
 }
 
 // k V, f I, j CODE A B, c A B C, x A I V
-fn made(s: Session, text: &[u8], cells: &mut [u16], command: u8) -> Stored {
+fn asked(s: Session, text: &[u8], command: u8) -> Request {
     let a = given(s, text, 2);
     let b = given(s, text, a.next);
     let c = given(s, text, b.next);
     let first = Node { number: a.value };
     let second = Node { number: b.value };
     let third = Node { number: c.value };
-    let store = s.store;
     match command {
-        b'k' => store.constant(cells, a.value),
-        b'f' => store.flag(cells, a.value),
-        b'j' => store.join(cells, byte(a.value), second, third),
-        b'c' => store.choose(cells, first, second, third),
-        _ => store.fix(cells, first, b.value, c.value),
+        b'k' => Request::Constant(a.value),
+        b'f' => Request::Flag(a.value),
+        b'j' => Request::Join {
+            code: byte(a.value),
+            first: second,
+            second: third,
+        },
+        b'c' => Request::Choose {
+            first,
+            second,
+            third,
+        },
+        _ => Request::Fix {
+            rule: first,
+            flag: b.value,
+            value: c.value,
+        },
     }
 }
 
@@ -67,9 +116,9 @@ fn is_inner(s: Session, node: u16, used: u16) -> bool {
 
 // A call that makes a rule.
 fn make(s: Session, text: &[u8], cells: &mut [u16], command: u8) -> Session {
-    let stored = made(s, text, cells, command);
-    let answer = stored.answer;
-    let store = stored.store;
+    let reached = made_by(s, s.store, asked(s, text, command), cells);
+    let answer = made_of(reached);
+    let store = reached.store;
     match answer {
         Made::Rule(node) => {
             let m = node.number;
@@ -98,14 +147,15 @@ fn as_lent(bytes: &[u8; 1025]) -> bool {
 }
 
 // The table of a node in lent bytes, printed where tabulate is accepted.
-fn table(store: Store, cells: &[u16], node: u16, bytes: &mut [u8]) -> Passed {
-    let passed = store.tabulate(cells, Node { number: node }, bytes);
-    let answer = passed.answer;
+fn table(store: Store, cells: &mut [u16], node: u16, bytes: &mut [u8]) -> Reached {
+    let request = Request::Tabulate(Node { number: node });
+    let reached = step(store, store, request, cells, bytes);
+    let answer = done_of(reached);
     if let Done::Accepted = answer {
         print::text(b"table ");
         print::rows(bytes);
     }
-    passed
+    reached
 }
 
 // A refused tabulate: its number, and whether it altered lent bytes.
@@ -119,7 +169,7 @@ fn refused_table(k: u8, bytes: &[u8; 1025]) {
 }
 
 // t A BYTES
-fn tabulate(s: Session, text: &[u8], cells: &[u16]) -> Session {
+fn tabulate(s: Session, text: &[u8], cells: &mut [u16]) -> Session {
     let a = given(s, text, 2);
     let length = number(text, a.next);
     let lent = length.value as usize;
@@ -128,9 +178,9 @@ fn tabulate(s: Session, text: &[u8], cells: &[u16]) -> Session {
         print::too_long();
         return s;
     }
-    let passed = table(s.store, cells, a.value, &mut bytes[0..lent]);
-    let answer = passed.answer;
-    let left = passed.store;
+    let reached = table(s.store, cells, a.value, &mut bytes[0..lent]);
+    let answer = done_of(reached);
+    let left = reached.store;
     if let Done::Refused(k) = answer {
         refused_table(k, &bytes);
     }
@@ -138,17 +188,21 @@ fn tabulate(s: Session, text: &[u8], cells: &[u16]) -> Session {
 }
 
 // w A ROW
-fn walk(s: Session, text: &[u8], cells: &[u16]) -> Session {
+fn walk(s: Session, text: &[u8], cells: &mut [u16]) -> Session {
     let a = given(s, text, 2);
     let row = number(text, a.next);
-    let store = s.store;
-    let walked = store.walk(cells, Node { number: a.value }, row.value);
-    let answer = walked.answer;
+    let rule = Node { number: a.value };
+    let request = Request::Walk {
+        rule,
+        row: row.value,
+    };
+    let reached = made_by(s, s.store, request, cells);
+    let answer = said_of(reached);
     match answer {
         Said::Answer(a) => print::number(b"answer", a as u16),
         Said::Refused(k) => print::refused(k),
     }
-    let left = walked.store;
+    let left = reached.store;
     s.counted(left, NONE, false)
 }
 
