@@ -4,12 +4,12 @@ use mathlib.Core.Path.{_≡_, refl, sym, ap, _∙_}
 use mathlib.Core.Logic.{_≢_}
 use mathlib.Core.Bool.{false}
 use mathlib.Core.List.{List}
-use Prim.Native.Nat.{ℕ, zero, suc, _^_, _≤_, _<_}
+use Prim.Native.Nat.{ℕ, _^_, _<_}
 use native.Mathlib.Omega.{arith}
 use lib.ListN.{length, getD}
 use Rattle.rule.specs.Bits.{bit, setBit}
 use Rattle.rule.specs.Table.{cofactor, depends}
-use Rattle.rule.specs.Order.{flags, level}
+use Rattle.rule.specs.Order.{level}
 use Rattle.rule.specs.Diagram.{tableOf}
 use Rattle.rule.specs.Results.{constantTable, flagTable}
 use Rattle.theory.proofs.Bits.{bit-same, bit-other, setBit-lt}

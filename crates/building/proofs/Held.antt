@@ -1,15 +1,16 @@
 -- The cells that a diagram is drawn in aside: the first of a local array, as many as were lent.
 -- Assumes nothing.
-use mathlib.Core.Path.{_≡_, refl, sym, ap, subst, _∙_}
-use mathlib.Core.List.{List, _∷_, _++_}
-use Prim.Native.Nat.{ℕ, zero, suc, _-_, _≤_, _<_}
-use native.Mathlib.Nat.{sub-zero, le-of-suc-le-suc, not-suc-le-zero}
+use mathlib.Core.Path.{_≡_, sym, ap, subst, _∙_}
+use mathlib.Core.List.{List, _++_}
+use Prim.Native.Nat.{ℕ, zero, _-_, _≤_, _<_}
+use native.Mathlib.Nat.{sub-zero}
 use native.Mathlib.Omega.{arith}
 use lib.ListN.{length, take, replicate, length-append, length-replicate}
 use lib.Seq.{take-at}
 use Rattle.rule.specs.Level.{size, nodesOf}
 use Rattle.rule.specs.Order.{flags}
 use Rattle.rule.specs.Cells.{mostCells, room}
+use Rattle.rule.proofs.Zeros.{zeros, take-zeros}
 use Rattle.theory.specs.Restrict.{restrict}
 use Rattle.unique.specs.declared.node.Grown.{Grown}
 use Rattle.unique.specs.declared.node.Found.{Found}
@@ -19,16 +20,8 @@ use Rattle.building.specs.Draw.{Drawing, Draw}
 use Rattle.building.specs.Fill.{Fits, Filled}
 use Rattle.building.proofs.Filled.{start, filled, exceeds}
 
-abbrev pub zeros : ℕ → List ℕ
-zeros k = replicate k 0
-
-take-replicate : (k m v : ℕ) → k ≤ m → take k (replicate m v) ≡ replicate k v
-take-replicate zero m v h = refl
-take-replicate (suc k) zero v h = absurd (not-suc-le-zero h)
-take-replicate (suc k) (suc m) v h = ap (λ (l : List ℕ). v ∷ l) (take-replicate k m v (le-of-suc-le-suc h))
-
 held-is : (k : ℕ) → k ≤ mostCells → take (k - 0) (zeros mostCells) ≡ zeros k
-held-is k h = ap (λ (i : ℕ). take i (zeros mostCells)) (sub-zero k) ∙ take-replicate k mostCells 0 h
+held-is k h = ap (λ (i : ℕ). take i (zeros mostCells)) (sub-zero k) ∙ take-zeros k mostCells h
 
 module _ {n : ℕ} {t order c : List ℕ} (f : Fits n t order c) where
   is-held : take (length c - 0) (zeros mostCells) ≡ zeros (length c)

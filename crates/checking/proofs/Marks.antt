@@ -3,7 +3,7 @@
 use mathlib.Core.Path.{_≡_, refl, sym, ap, _∙_}
 use mathlib.Core.Logic.{_⊎_, inl, inr, ⊎-elim, _↔_}
 use mathlib.Core.List.{List}
-use Prim.Native.Nat.{ℕ, zero, suc, _+_, _<_}
+use Prim.Native.Nat.{ℕ, zero, _+_, _<_}
 use native.Mathlib.Decide.{ℕ-discrete}
 use native.Mathlib.Nat.{eq-or-lt-of-le}
 use native.Mathlib.Omega.{arith}
@@ -11,6 +11,7 @@ use borrow.Author.Tests.{lt-ltb, le-ltb}
 use lib.ListN.{length, getD, set, replicate, length-set, length-replicate}
 use lib.Seq.{getD-set-same, getD-set-other}
 use Rattle.rule.specs.Cells.{lowAt, highAt, recordOf}
+use Rattle.rule.proofs.Zeros.{zero-at}
 use Rattle.theory.proofs.Walks.{node}
 use Rattle.checking.specs.Mark.{mark, IsChild, Marked}
 
@@ -46,13 +47,8 @@ pub marked-none : (c : List ℕ) → Marked c 0 (replicate 1024 0)
 marked-none c =
     record {
       lent = length-replicate {A = ℕ} 1024 0;
-      is = λ k. (λ e. let q : _≡_ {A = ℕ} 0 1 = sym (zeros 1024 k) ∙ e in absurd (omega arith), λ (_, (j, h, _)). absurd (omega arith));
+      is = λ k. (λ e. let q : _≡_ {A = ℕ} 0 1 = sym (zero-at 1024 k) ∙ e in absurd (omega arith), λ (_, (j, h, _)). absurd (omega arith));
     }
-  where
-    zeros : (k i : ℕ) → _≡_ {A = ℕ} (getD (replicate k 0) i 0) 0
-    zeros zero i = refl
-    zeros (suc k) zero = refl
-    zeros (suc k) (suc i) = zeros k i
 
 -- the children of one record more
 pub marked-more : {c marks : List ℕ} {j low high : ℕ} → Marked c j marks → low ≡ lowAt c j → high ≡ highAt c j → low < 1026 → high < 1026

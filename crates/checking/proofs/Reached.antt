@@ -1,25 +1,22 @@
 -- Reach from a root by the marks of children, in cells whose children are smaller.
 -- Assumes nothing.
-use mathlib.Core.Path.{_≡_, refl, sym, ap}
-use mathlib.Core.Logic.{_⊎_, inl, inr}
-use mathlib.Core.Bool.{Bool, true, false, not, _&&_, _||_, true≢false}
-use mathlib.Core.List.{List, [], _∷_}
+use mathlib.Core.Path.{_≡_, refl, sym}
+use mathlib.Core.Logic.{inl, inr}
+use mathlib.Core.Bool.{Bool, true, false, not}
+use mathlib.Core.List.{List}
 use Prim.Native.Nat.{ℕ, _+_, _-_, _≤_, _<_}
 use native.Mathlib.Omega.{arith}
-use borrow.Author.Tests.{eqb-true, eq-eqb, ne-eqb, not-true, not-false}
+use borrow.Author.Tests.{eqb-true, eq-eqb}
 use lib.Dec.{eqb}
 use lib.ListN.{getD}
 use Rattle.rule.specs.Bits.{below}
 use Rattle.rule.specs.Tests.{each}
-use Rattle.rule.specs.Cells.{lowAt, highAt, childrenSmaller}
+use Rattle.rule.specs.Cells.{childrenSmaller}
 use Rattle.rule.specs.Diagram.{allReached}
-use Rattle.theory.proofs.Member.{In, head, tail}
-use Rattle.theory.proofs.Bits.{below-in}
 use Rattle.theory.proofs.Tests.{each-below, below-each}
-use Rattle.theory.proofs.Scan.{fails-below}
 use Rattle.theory.proofs.Sound.{children-smaller}
 use Rattle.theory.specs.Sound.{Smaller}
-use Rattle.theory.proofs.Reach.{Parent, root-last, reached-parents, reached-by-parents}
+use Rattle.theory.proofs.Reach.{root-last, reached-parents, reached-by-parents}
 use Rattle.checking.specs.Mark.{Marked}
 use Rattle.checking.proofs.Parts.{fails}
 

@@ -18,10 +18,11 @@ use Rattle.rule.specs.Cells.{fitCells, sound}
 use Rattle.rule.specs.Diagram.{tableOf}
 use Rattle.rule.specs.Results.{constantTable, Making, flag, join, choose, fix, rulesAmong, madeFrom, madeIn, needed, firstWith, madeNode}
 use Rattle.rule.specs.Refusals.{Row, refusal, openRows, constantRows, makingRows}
-use Rattle.rule.specs.Reply.{Reply, accepted, refused, reply, Accepted, leaves}
+use Rattle.rule.specs.Reply.{accepted, refused, reply, Accepted, leaves}
 use Rattle.rule.specs.Calls.{State, withUsed, Open, Constant, Holds, HoldsOr, Make}
-use Rattle.rule.specs.History.{constant-call, making-call, tabulate-call, walk-call, Left, Call, open-call, other-call, left, Meets, Calls, Opens, BeginsOpen, Book, lookup, inBook, isThere, ruleAt, madeInBook, writeAt, writeMade, enter, bookOf}
+use Rattle.rule.specs.History.{constant-call, making-call, tabulate-call, walk-call, Left, Call, open-call, other-call, left, Meets, Calls, Opens, BeginsOpen, Book, lookup, inBook, isThere, ruleAt, madeInBook, writeAt, enter, bookOf}
 use Rattle.rule.specs.Demands.{Agrees, AgreesThroughout}
+use Rattle.rule.proofs.Book.{refused-silent, none-silent}
 use Rattle.theory.proofs.Tests.{and-split}
 use Rattle.theory.proofs.Bits.{below-in}
 use Rattle.theory.proofs.Sound.{view-sound, sound-cleared}
@@ -117,11 +118,6 @@ silent-agrees b x e m t u p q _ =
 silent : {s : State} {c : List ℕ} {b : Book} (x : Call) → left x .state ≡ s → left x .cells ≡ c → enter b x ≡ b → After s c b → Step b x
 silent {b} x se ce e a = (rw (se, ce, e) a, silent-agrees b x e)
 
-silent-reply : (r : Reply) {b : Book} → writeMade r none b ≡ b
-silent-reply (accepted []) = refl
-silent-reply (accepted (m ∷ values)) = refl
-silent-reply (refused k values) = refl
-
 -- a call that keeps the older nodes
 kept-agrees : {s : State} {c d : List ℕ} {b : Book} {used : ℕ} (x : Call) → Keeps s c b → Keeps (withUsed s used) d (enter b x)
     → ((m : ℕ) → m ≤ s .used + 1 → tableOf (s .n) d m ≡ tableOf (s .n) c m) → Agrees b x
@@ -188,7 +184,7 @@ module _ (given : State) (c : List ℕ) where
       go zero z se ae ce = (rw (se, ae, ce) (live (opened-keeps z)), λ m t u p q other. absurd (other (rw ae tt)))
       go (suc k) z se ae ce =
           let (g, w) = before (λ h. rw ae at h) in
-          let e : enter b (open-call given l) ≡ b = rw ae in
+          let e : enter b (open-call given l) ≡ b = refused-silent b (open-call given l) ae in
           (rw (se, ce, e) (shut g w (refused-shut k (w .lent) z)), silent-agrees b (open-call given l) e)
 
 -- ---- constant
@@ -204,7 +200,7 @@ constant-step {s} {c} {b} v l x a = go a (refusal rows) refl (x .answer)
     rows = constantRows (s .n) (s .places) c (s .used) v
 
     go : After s c b → (k : ℕ) → refusal rows ≡ k → l .answer ≡ reply k (v ∷ []) → Step b call
-    go a (suc k) z ae = silent call (x .state) (x .cells) (rw ae) a
+    go a (suc k) z ae = silent call (x .state) (x .cells) (refused-silent b call ae) a
     go (shut g w h) zero z ae = absurd (shut-refused s (drop 2 rows) h z)
     go (live w) zero z ae =
         let (_, (_, (_, (_, (p, _))))) = passed rows refl z in
@@ -274,7 +270,7 @@ making-step {s} {c} {b} x l y a = go a (refusal rows) refl (y .answer) (y .state
 
     go : After s c b → (k : ℕ) → refusal rows ≡ k → l .answer ≡ reply k (node ∷ []) → l .state ≡ leaves k (withUsed s used) s → HoldsOr k s c t (l .cells)
         → Step b call
-    go a (suc k) z ae se h = silent call se h (rw ae) a
+    go a (suc k) z ae se h = silent call se h (refused-silent b call ae) a
     go (shut g w h) zero z ae se _ = absurd (shut-refused s (drop 2 rows) h z)
     go (live w) zero z ae se h =
         let e : enter b call ≡ writeAt node (madeInBook b x) b = rw ae in
@@ -291,8 +287,8 @@ step : {s : State} {c : List ℕ} {b : Book} (x : Call) → Meets s c x → Afte
 step {c} {b} (open-call given l) y a = open-step given c l b y (λ _. base a)
 step (other-call (constant-call v) l) y a = constant-step v l y a
 step (other-call (making-call x) l) y a = making-step x l y a
-step (other-call (tabulate-call m bytes) l) (y, e) a = silent (other-call (tabulate-call m bytes) l) (y .state) e (silent-reply (l .answer)) a
-step (other-call (walk-call m row) l) (y, e) a = silent (other-call (walk-call m row) l) (y .state) e (silent-reply (l .answer)) a
+step (other-call (tabulate-call m bytes) l) (y, e) a = silent (other-call (tabulate-call m bytes) l) (y .state) e (none-silent (l .answer)) a
+step (other-call (walk-call m row) l) (y, e) a = silent (other-call (walk-call m row) l) (y .state) e (none-silent (l .answer)) a
 
 -- from an accepted open, whatever was before
 first-step : (s : State) (c : List ℕ) (b : Book) (x : Call) → Meets s c x → Opens x → Step b x

@@ -14,6 +14,7 @@ use Rattle.rule.specs.Cells.{mostCells, fitCells, room}
 use Rattle.rule.specs.Diagram.{diagram}
 use Rattle.rule.specs.Files.{FileRecord, Reading, count, recordAt, Outcome, stop, go, andThen, unless, fieldIf, readMap, readFlags, readOrder, readLabel, readRecords, rootRead, recordCells, laidIn, readEnd, reading, Reads, labelOf, noPart}
 use Rattle.rule.specs.Reply.{accepted, refused}
+use Rattle.rule.proofs.Zeros.{take-zeros}
 use Rattle.theory.proofs.Refused.{refused-reply}
 use Rattle.theory.proofs.Bits.{bit-lt}
 use Rattle.cells.proofs.Fit.{fit-length}
@@ -22,7 +23,7 @@ use Rattle.files.specs.declared.step.Step.{Step}
 use Rattle.files.specs.Step.{readingOf, outcomeOf, Whole, mapRead, fieldsRead}
 use Rattle.files.specs.Read.{Tested}
 use Rattle.files.proofs.Stepped.{then-then, refused-stays, refused-alone}
-use Rattle.files.proofs.Laid.{take-zeros, laid-length, length-below}
+use Rattle.files.proofs.Laid.{laid-length, length-below}
 
 -- ---- the fields together
 

@@ -10,16 +10,9 @@ use lib.Seq.{take-at, take-append-add, drop-append-add}
 use Rattle.rule.specs.Bits.{from, below}
 use Rattle.rule.specs.Cells.{width, room, inCells}
 use Rattle.rule.specs.Files.{FileRecord, recordAt, twoAt, recordCells, laidIn}
+use Rattle.rule.proofs.Zeros.{zeros, take-zeros}
 use Rattle.theory.proofs.Bits.{length-from}
 use Rattle.cells.specs.Record.{putRecord}
-
-abbrev zeros : ℕ → List ℕ
-zeros k = replicate k 0
-
-pub take-zeros : (m k : ℕ) → m ≤ k → take m (zeros k) ≡ zeros m
-take-zeros zero k h = refl
-take-zeros (suc m) zero h = absurd (omega arith)
-take-zeros (suc m) (suc k) h = ap (λ (l : List ℕ). 0 ∷ l) (take-zeros m k (omega arith))
 
 drop-zeros : (k m : ℕ) → drop k (zeros m) ≡ zeros (m - k)
 drop-zeros zero m = let e : m ≡ m - 0 = omega arith in ap zeros e

@@ -65,10 +65,6 @@ pub nodes-all : (s : List ℕ) (p : ℕ) (d : List ℕ) → nodesBelow s p d (le
 unfolding nodesBelow foldCount
 nodes-all s p d = refl
 
--- no more than there are ways
-pub count-le : (s : List ℕ) (p : ℕ) (d : List ℕ) → foldCount s p d ≤ length d
-count-le s p d = omega (arith, nodes-all s p d, nodes-le s p d (length d))
-
 module _ (s : List ℕ) (p : ℕ) (d : List ℕ) (i : ℕ) where
   next : (b : Bool) → node s p d i ≡ b → nodesBelow s p d (i + 1) ≡ nodesBelow s p d i + more b
   unfolding nodesBelow

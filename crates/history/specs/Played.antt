@@ -3,11 +3,11 @@
 use mathlib.Core.Path.{_≡_}
 use mathlib.Core.Bool.{cond}
 use mathlib.Core.List.{List, [], _∷_}
-use Prim.Native.Nat.{ℕ, _+_, _/_, _%_}
+use Prim.Native.Nat.{ℕ, _+_, _%_}
 use lib.Dec.{eqb}
 use lib.ListN.{length, getD}
 use Rattle.rule.specs.Calls.{State}
-use Rattle.rule.specs.History.{Left, Call, left, Calls}
+use Rattle.rule.specs.History.{Call, left, Calls}
 use Rattle.rule.specs.declared.node.Node.{Node}
 use Rattle.history.specs.Request.{callOf, KeepsBytes}
 use Rattle.history.specs.declared.requests.Request.{Request}

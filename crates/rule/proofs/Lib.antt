@@ -1,2 +1,4 @@
+pub mod Zeros
 pub mod Rising
 pub mod Examples
+pub mod Book

@@ -8,11 +8,7 @@ use native.Mathlib.Omega.{arith}
 use lib.ListN.{take, set, replicate}
 use Rattle.rule.specs.Bits.{from}
 use Rattle.rule.specs.Order.{places, rising}
-
-take-zeros : (m k : ℕ) → m ≤ k → take m (replicate k 0) ≡ replicate {A = ℕ} m 0
-take-zeros zero k h = refl
-take-zeros (suc m) zero h = absurd (omega arith)
-take-zeros (suc m) (suc k) h = ap (λ (l : List ℕ). 0 ∷ l) (take-zeros m k (omega arith))
+use Rattle.rule.proofs.Zeros.{take-zeros}
 
 -- in m places, with k zeros behind the flags that are named
 named-more : (a i v m k : ℕ) → v ≡ a + i → i < m → m ≤ k → set (take m (from a i ++ replicate k 0)) i v ≡ take m (from a (suc i) ++ replicate k 0)

@@ -13,7 +13,7 @@ use lib.Dec.{eqb}
 use lib.ListN.{length}
 use Rattle.rule.specs.Table.{cofactor, fixings}
 use Rattle.rule.specs.Order.{flags, level}
-use Rattle.rule.specs.Cells.{flagAt, recordOf, isEnd}
+use Rattle.rule.specs.Cells.{flagAt}
 use Rattle.rule.specs.Diagram.{reach, tableOf}
 use Rattle.theory.proofs.Sets.{Order}
 use Rattle.theory.specs.Child.{childAt, child}

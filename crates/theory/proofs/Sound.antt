@@ -15,6 +15,7 @@ use Rattle.rule.specs.Bits.{below}
 use Rattle.rule.specs.Tests.{each}
 use Rattle.rule.specs.Order.{flags, level}
 use Rattle.rule.specs.Cells.{width, room, flagAt, lowAt, highAt, recordOf, flagsBelow, childrenDiffer, childrenSmaller, asksLater, childrenLater, sameRecord, noneEqual, restClear, laid, sound}
+use Rattle.rule.proofs.Zeros.{zero-at}
 use Rattle.theory.specs.Sound.{Sound}
 use Rattle.theory.proofs.Tests.{and-split, and-join, each-below, below-each}
 
@@ -173,10 +174,5 @@ sound-cleared n order k =
       low-later = λ j h. absurd (omega arith);
       high-later = λ j h. absurd (omega arith);
       once = λ i j h. absurd (omega arith);
-      clear = λ i h. zeros k i;
+      clear = λ i h. zero-at k i;
     }
-  where
-    zeros : (k i : ℕ) → _≡_ {A = ℕ} (getD (replicate k 0) i 0) 0
-    zeros zero i = refl
-    zeros (suc k) zero = refl
-    zeros (suc k) (suc i) = zeros k i

@@ -2,9 +2,8 @@
 -- Assumes nothing.
 use mathlib.Core.Path.{_≡_, refl, sym, ap, _∙_}
 use mathlib.Core.Logic.{inl, ⊎-elim}
-use mathlib.Core.Bool.{cond}
 use mathlib.Core.List.{List}
-use Prim.Native.Nat.{ℕ, zero, suc, _+_, _-_, _*_, _%_, _≤_, _<_}
+use Prim.Native.Nat.{ℕ, zero, suc, _+_, _-_, _*_, _≤_, _<_}
 use native.Mathlib.Nat.{eq-or-lt-of-le}
 use native.Mathlib.Decide.{ℕ-discrete, decLt}
 use native.Mathlib.Numerals.{add-one}
@@ -14,11 +13,12 @@ use borrow.Author.Tests.{eq-eqb, ne-eqb}
 use lib.ListN.{length, getD, set, replicate, length-set, length-replicate}
 use lib.Seq.{getD-set-same, getD-set-other}
 use Rattle.rule.specs.Cells.{width, room, flagAt, lowAt, highAt}
+use Rattle.rule.proofs.Zeros.{zero-at}
 use Rattle.cells.specs.Record.{putRecord}
 use Rattle.cells.proofs.Record.{put-else}
 use Rattle.theory.proofs.Walks.{flag-kept, low-kept, high-kept}
 use Rattle.unique.specs.Index.{heads, links, hash, hashAt, lastWith, emptyIndex, Indexed}
-use Rattle.unique.specs.Node.{Is, None, Finds}
+use Rattle.unique.specs.Node.{Is, Finds}
 
 -- ---- the last record with a hash
 
@@ -66,12 +66,7 @@ last-same c d h (suc k) f =
 pub index-none : (c : List ℕ) → Indexed c 0 emptyIndex
 unfolding lastWith
 index-none c =
-    record { lent = length-replicate {A = ℕ} (heads + links) 0; head = λ h l. zeros (heads + links) h; link = λ j h. absurd (omega arith) }
-  where
-    zeros : (k i : ℕ) → _≡_ {A = ℕ} (getD (replicate k 0) i 0) 0
-    zeros zero i = refl
-    zeros (suc k) zero = refl
-    zeros (suc k) (suc i) = zeros k i
+    record { lent = length-replicate {A = ℕ} (heads + links) 0; head = λ h l. zero-at (heads + links) h; link = λ j h. absurd (omega arith) }
 
 -- cells with the same used records have the same index
 pub index-kept : {c d : List ℕ} {used : ℕ} {index : List ℕ} → ((j : ℕ) → j < used → hashAt c j ≡ hashAt d j) → Indexed c used index → Indexed d used index

@@ -1,6 +1,5 @@
 -- `apply::step::branch` meets its contract: each way rewrites with the tests that led to it.
 -- Assumes nothing.
-use mathlib.Core.Path.{sym, _∙_}
 use borrow.Author.Needs.{needs}
 use borrow.Author.Tests.{lt-ltb, le-ltb, eq-eqb, ne-eqb}
 use Rattle.theory.specs.Child.{child}

@@ -4,7 +4,6 @@ use mathlib.Core.Path.{sym, _∙_}
 use borrow.Author.Needs.{needs}
 use borrow.Author.Tests.{not-true, not-false}
 use denote.Ref.{now}
-use Rattle.checking.proofs.Refused.{few-flags}
 use Rattle.store.specs.State.{stateOf}
 use Rattle.store.proofs.Opened.{open-refused, open-unfit, open-done}
 use Rattle.store.proofs.state.Store.open.Statement.{statement}
