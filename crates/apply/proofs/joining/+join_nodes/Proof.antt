@@ -69,7 +69,7 @@ pub +join-nodes-spec : {M : Type 1} → statement M
     let (_, from, less, _, _) = top (p .1) (p .2) (p .3) (c .before .before .before .before .before .before .before .before .before .before .earlier .ensures) (c .before .before .before .before .before .before .before .before .before .if1 .left) (c .before .before .before .before .before .before .before .flag-at .ensures) in
     let (f, g) =
     low-from (p .1) (p .2) (p .3) (c .before .before .before .before .before .before .before .before .before .before .earlier .ensures) (c .before .before .before .before .before .before .before .before .before .if1 .left) (c .before .before .before .before .before .before .before .flag-at .ensures) (c .before .before .before .before .branch .ensures) (c .before .before .branch2 .ensures) (c .before .before .before .before .before .before .level .ensures) in
-    (omega (arith, s .0, from, less, c .before .before .before .before .before .before .level .ensures), (p .0, p .1, f, g)))
+    (omega (arith, s .0, from, less, c .before .before .before .before .before .before .level .ensures), (omega (arith, p .0), p .1, f, g)))
     (λ c. search needs)
     (λ c. search needs)
     (λ c κs. let p = c .before .before .before .before .before .before .before .before .before .before .before .before .before .before .before .before .before .before .before .before .pre .1 in omega (arith, p .2 .node, p .1 .is-sound .fits, c .before .before .before .before .before .before .join-nodes .ensures .grew .grows .lent))
