@@ -64,7 +64,7 @@ nodes-few before (v ∷ vs) t =
     omega (arith, length-append (levelNodes before v t) (nodesFrom (v ∷ before) vs t), level-few before v t) in
     q
 
-size-few : (n : ℕ) (order t : List ℕ) → Fit n order t → size (flags n order) t < 1024
+pub size-few : (n : ℕ) (order t : List ℕ) → Fit n order t → size (flags n order) t < 1024
 size-few n order t f =
     let e = order-length n (flags n order) (fit-order-is n order (f .order-fits)) in
     let l : 0 + length (flags n order) ≤ 10 = omega (arith, f .few) in

@@ -1,65 +1,15 @@
--- Runs of bytes, written one behind the other.
+-- The bytes of records, written one behind the other.
 -- Assumes nothing.
 use mathlib.Core.Path.{_≡_, refl, ap, _∙_}
-use mathlib.Core.List.{List, [], _∷_, _++_, append-assoc}
-use Prim.Native.Nat.{ℕ, _+_, _*_, _≤_, _<_}
+use mathlib.Core.List.{List, [], _∷_, _++_}
+use Prim.Native.Nat.{ℕ, _+_, _*_, _≤_}
 use native.Mathlib.Omega.{arith}
-use lib.ListN.{length, take, drop, set, length-append, length-drop}
-use lib.Seq.{length-take-le, take-at, take-length, drop-append-add, drop-drop, sets-eq, paste, paste-zero}
+use lib.ListN.{length}
 use Rattle.rule.specs.Files.{FileRecord, inBytes, recordBytes, recordsIn}
-use Rattle.files.specs.Run.{over, Puts, recordIn}
+use Rattle.runs.specs.Run.{Puts}
+use Rattle.runs.proofs.Puts.{puts-more}
+use Rattle.files.specs.Run.{recordIn}
 use Rattle.files.proofs.Laid.{below-more, length-below}
-
-module _ (b : List ℕ) (at : ℕ) (x : List ℕ) (h : at + length x ≤ length b) where
-  front : length (take at b ++ x) ≡ at + length x
-  front = length-append (take at b) x ∙ omega (arith, length-take-le at b (omega arith))
-
-  over-length : length (over b at x) ≡ length b
-  unfolding over
-  over-length =
-      length-append (take at b ++ x) (drop (at + length x) b) ∙ omega (arith, front, length-drop (at + length x) b)
-
-over-more : (b : List ℕ) (at : ℕ) (x y : List ℕ) → at + (length x + length y) ≤ length b
-    → over (over b at x) (at + length x) y ≡ over b at (x ++ y)
-unfolding over
-over-more b at x y h =
-    let p = take at b ++ x in
-    let d = drop (at + length x) b in
-    let e : length p ≡ at + length x = front b at x (omega arith) in
-    let past : at + length x + length y ≡ length p + length y = omega (arith, e) in
-    let whole : at + length x + length y ≡ at + length (x ++ y) = omega (arith, length-append x y) in
-    let rest : drop (at + length x + length y) (p ++ d) ≡ drop (at + length (x ++ y)) b =
-    ap (λ (k : ℕ). drop k (p ++ d)) past ∙ drop-append-add p d (length y) ∙ drop-drop (length y) (at + length x) b ∙ ap (λ (k : ℕ). drop k b) whole in
-    ap (λ (l : List ℕ). l ++ y ++ drop (at + length x + length y) (p ++ d)) (take-at p d (at + length x) e)
-    ∙ ap (λ (l : List ℕ). p ++ y ++ l) rest
-    ∙ ap (λ (l : List ℕ). l ++ drop (at + length (x ++ y)) b) (append-assoc (take at b) x y)
-
--- ---- a run behind another
-
-pub puts-length : {b x d : List ℕ} {at m : ℕ} → Puts b at x m d → at + length x ≤ length b → length d ≡ length b
-puts-length {b} {x} {at} p h = ap length (p .after-is) ∙ over-length b at x h
-
-pub puts-more : {b x y d e : List ℕ} {at m r : ℕ} → at + (length x + length y) ≤ length b → Puts b at x m d → Puts d m y r e → Puts b at (x ++ y) r e
-puts-more {b} {x} {y} {at} h p q =
-    record {
-      next-is = omega (arith, q .next-is, p .next-is, length-append x y);
-      after-is = q .after-is ∙ rw (p .after-is, p .next-is) (over-more b at x y h);
-    }
-
-pub puts-none : (b : List ℕ) (at : ℕ) → Puts b at [] at b
-unfolding over
-puts-none b at = record { next-is = omega arith; after-is = paste-zero b at [] }
-
-pub puts-one : (b : List ℕ) (at v : ℕ) → at < length b → Puts b at (v ∷ []) (at + 1) (set b at v)
-unfolding over
-puts-one b at v h = record { next-is = refl; after-is = sets-eq (v ∷ []) b at (omega arith) }
-
--- a run copied whole
-pub puts-run : (b : List ℕ) (at : ℕ) (run : List ℕ) (i : ℕ) {d : List ℕ} → d ≡ paste b at run i → i ≡ length run → Puts b at run (at + i) d
-unfolding over
-puts-run b at run i e f = record { next-is = omega arith; after-is = e ∙ rw (f, take-length) }
-
--- ---- records
 
 pub length-bytes : (rs : List FileRecord) → length (recordBytes rs) ≡ length rs * 5
 unfolding recordBytes

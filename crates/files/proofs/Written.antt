@@ -18,9 +18,10 @@ use Rattle.rule.specs.Reply.{accepted, refused, reply, leaves}
 use Rattle.rule.specs.Files.{two, printable, longestLabel, labelBytes, bitIf, ifSome, recordBytes, recordsIn, fileOf, writeRows, Writes}
 use Rattle.theory.proofs.Refused.{row-passed, refused-more, passed-more, refused-reply}
 use Rattle.theory.proofs.Sound.{sound-view}
-use Rattle.files.specs.Run.{over, Puts}
+use Rattle.runs.specs.Run.{over, Puts}
+use Rattle.runs.proofs.Puts.{puts-more}
 use Rattle.files.specs.Write.{mapOf, sizeOf, ownRows, Writable}
-use Rattle.files.proofs.Puts.{puts-more, length-records}
+use Rattle.files.proofs.Puts.{length-records}
 
 -- ---- what stands only where there is something
 

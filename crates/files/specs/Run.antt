@@ -1,20 +1,9 @@
--- A run of bytes written at a place.
+-- A record as the writer takes it from cells.
 -- Assumes nothing.
-use mathlib.Core.Path.{_≡_}
-use mathlib.Core.List.{List, _++_}
-use Prim.Native.Nat.{ℕ, _+_}
-use lib.ListN.{length, take, drop}
+use mathlib.Core.List.{List}
+use Prim.Native.Nat.{ℕ}
 use Rattle.rule.specs.Cells.{flagAt, lowAt, highAt}
 use Rattle.rule.specs.Files.{FileRecord}
-
--- the bytes with a run at a place, which they have room for
-unfoldable pub over : List ℕ → ℕ → List ℕ → List ℕ
-over bytes at run = take at bytes ++ run ++ drop (at + length run) bytes
-
--- the run is written, and the next place handed back
-pub record Puts (bytes : List ℕ) (at : ℕ) (run : List ℕ) (next : ℕ) (after : List ℕ) : Type 0 where
-  pub next-is : next ≡ at + length run
-  pub after-is : after ≡ over bytes at run
 
 -- record k of cells, as a file has it
 abbrev pub recordIn : List ℕ → ℕ → FileRecord

@@ -1,19 +1,12 @@
 use rule::Order;
-ghost use mathlib.Core.List.{[], _∷_};
+use runs::put_byte;
+use runs::put_run;
 ghost use Prim.Native.Nat.{ℕ, _+_, _*_, _≤_, _<_};
 ghost use lib.ListN.{length, take};
 ghost use Rattle.rule.specs.Cells.{room, flagAt};
 ghost use Rattle.rule.specs.Files.{two, inBytes, recordBytes, recordsIn};
-ghost use Rattle.files.specs.Run.{Puts, recordIn};
-
-// Writes a byte at a place, and hands back the next place, as all of these do.
-pub fn put_byte(bytes: &mut [u8], at: usize, b: u8) -> usize
-    requires { ⌜ at < length (now bytes) ⌝ }
-    ensures { λ r. ⌜ Puts (now (bytes .entry)) at (b ∷ []) r (now (bytes .exit)) ⌝ }
-{
-    bytes[at] = b;
-    at + 1
-}
+ghost use Rattle.runs.specs.Run.{Puts};
+ghost use Rattle.files.specs.Run.{recordIn};
 
 // Writes a number in two bytes, low byte first.
 pub fn put_two(bytes: &mut [u8], at: usize, x: u16) -> usize
@@ -24,20 +17,6 @@ pub fn put_two(bytes: &mut [u8], at: usize, x: u16) -> usize
     let high = (x / 256) as u8;
     let next = put_byte(bytes, at, low);
     put_byte(bytes, next, high)
-}
-
-// Writes a run of bytes.
-pub fn put_run(bytes: &mut [u8], at: usize, run: &[u8]) -> usize
-    requires { ⌜ at + length (now run) ≤ length (now bytes) ⌝ }
-    ensures { λ r. ⌜ Puts (now (bytes .entry)) at (now (run .entry)) r (now (bytes .exit)) ⌝ }
-{
-    let mut i = 0;
-    while i < run.len() {
-        let to = at + i;
-        bytes[to] = run[i];
-        i += 1;
-    }
-    at + i
 }
 
 // Writes the flags of an order.

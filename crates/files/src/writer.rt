@@ -1,13 +1,13 @@
 use crate::bytes::all_printable;
-use crate::run::put_byte;
 use crate::run::put_flags;
 use crate::run::put_records;
-use crate::run::put_run;
 use crate::run::put_two;
 use rule::Counted;
 use rule::Node;
 use rule::Order;
 use rule::Written;
+use runs::put_byte;
+use runs::put_run;
 ghost use mathlib.Core.Path.{_≡_};
 ghost use mathlib.Core.List.{_∷_, _++_};
 ghost use Prim.Native.Nat.{ℕ, _+_, _*_, _≤_, _<_};
@@ -16,7 +16,7 @@ ghost use Rattle.rule.specs.Cells.{room, flagAt};
 ghost use Rattle.rule.specs.Refusals.{refusal};
 ghost use Rattle.rule.specs.Answers.{writtenReply};
 ghost use Rattle.rule.specs.Files.{two, recordBytes, recordsIn, ifSome, bitIf, fileOf, writeRows, Writes};
-ghost use Rattle.files.specs.Run.{Puts};
+ghost use Rattle.runs.specs.Run.{Puts};
 ghost use Rattle.files.specs.Write.{mapOf, sizeOf, ownRows, Writable};
 
 // x where there is something, else 0.

@@ -2,48 +2,20 @@
 -- Assumes nothing.
 use mathlib.Core.Path.{_≡_, refl, sym, ap, _∙_}
 use mathlib.Core.Bool.{Bool, true, false, _&&_, not}
-use mathlib.Core.List.{List, []}
-use Prim.Native.Nat.{ℕ, zero, suc, _+_, _≤_}
+use mathlib.Core.List.{List}
+use Prim.Native.Nat.{ℕ, _+_, _≤_}
 use native.Mathlib.Nat.{add-zero}
 use native.Mathlib.Omega.{arith}
 use borrow.Author.Tests.{eq-eqb, ne-eqb}
 use lib.Dec.{eqb}
 use lib.ListN.{length, getD}
 use Rattle.rule.specs.Bits.{from, below}
-use Rattle.rule.specs.Tests.{addIf, keep}
+use Rattle.rule.specs.Tests.{keep}
 use Rattle.theory.proofs.Bits.{length-from}
 use Rattle.theory.proofs.Tests.{length-keep}
+use Rattle.theory.proofs.Scan.{more, counted}
 use Rattle.folding.specs.Fold.{foldCount}
 use Rattle.folding.specs.Index.{codeAt}
-
--- ---- a count over the numbers below k
-
--- one more where the test passes
-abbrev more : Bool → ℕ
-more true = 1
-more false = 0
-
-counted-from : (p : ℕ → Bool) (a k : ℕ) → length (keep p (from a (suc k))) ≡ length (keep p (from a k)) + more (p (a + k))
-unfolding keep from
-counted-from p a zero = let e : a + 0 ≡ a = omega arith in rw e (go (p a))
-  where
-    go : (b : Bool) → length (addIf b a []) ≡ 0 + more b
-    go true = refl
-    go false = refl
-counted-from p a (suc k) = go (p a) (counted-from p (suc a) k)
-  where
-    go : (b : Bool) → length (keep p (from (suc a) (suc k))) ≡ length (keep p (from (suc a) k)) + more (p (suc a + k))
-        → length (addIf b a (keep p (from (suc a) (suc k)))) ≡ length (addIf b a (keep p (from (suc a) k))) + more (p (a + suc k))
-    go true e = let q : suc a + k ≡ a + suc k = omega arith in omega (arith, e, ap (λ (x : ℕ). more (p x)) q)
-    go false e = let q : suc a + k ≡ a + suc k = omega arith in omega (arith, e, ap (λ (x : ℕ). more (p x)) q)
-
-counted : (p : ℕ → Bool) (k : ℕ) → length (keep p (below (k + 1))) ≡ length (keep p (below k)) + more (p k)
-counted p k =
-    let e : k + 1 ≡ suc k = omega arith in
-    let z : 0 + k ≡ k = omega arith in
-    ap (λ (x : ℕ). length (keep p (below x))) e ∙ counted-from p 0 k ∙ ap (λ (x : ℕ). length (keep p (below k)) + more (p x)) z
-
--- ---- the ways that are nodes
 
 -- way i is the first with its code, and its halves differ
 abbrev node : List ℕ → ℕ → List ℕ → ℕ → Bool

@@ -19,7 +19,7 @@ use Rattle.rule.specs.Results.{rootBy}
 use Rattle.rule.specs.Calls.{DrawsOr, Build, Pack, workspaceAfter}
 use Rattle.theory.proofs.Orders.{packed-flags, packed-fit}
 use Rattle.theory.proofs.Tests.{and-split}
-use Rattle.theory.proofs.Refused.{row-passed, refused-more, passed-more, refused-reply}
+use Rattle.theory.proofs.Refused.{row-passed, refused-more, passed-more, refused-reply, refused-is, accepted-is}
 use Rattle.cells.specs.Record.{clearFrom}
 use Rattle.packing.specs.Lent.{lentRows}
 
@@ -93,20 +93,6 @@ zero-places o = zeros (inPlaces o) ∙ ap (λ (k : ℕ). replicate {A = ℕ} k 0
   where
     ten : length (inPlaces o) ≡ 10
     ten = simp (length-take, length-append, length-replicate) (omega arith)
-
--- ---- replies
-
-abbrev isRefused : Reply → ℕ
-isRefused (accepted l) = 0
-isRefused (refused k l) = 1
-
-refused-is : (k j : ℕ) (zs values : List ℕ) → refused k zs ≡ reply j values → (k ≡ j) × (j ≡ 0 → ⊥)
-refused-is k zero zs values e = let q = ap isRefused e in absurd (omega arith)
-refused-is k (suc j) zs values e = (cc, λ q. omega arith)
-
-accepted-is : (j : ℕ) (xs values : List ℕ) → accepted xs ≡ reply j values → (j ≡ 0) × (xs ≡ values)
-accepted-is zero xs values e = (refl, cc)
-accepted-is (suc j) xs values e = let q = ap isRefused e in absurd (omega arith)
 
 -- ---- the answer
 

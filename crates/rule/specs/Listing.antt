@@ -3,6 +3,7 @@
 use mathlib.Core.Bool.{Bool, true, false, not, _||_}
 use mathlib.Core.List.{List, [], _∷_, _++_, map}
 use Prim.Native.Nat.{ℕ, zero, suc, _-_, _^_}
+use Prim.Native.String.{String}
 use lib.Dec.{eqb, ltb}
 use lib.ListN.{length}
 use Rattle.rule.specs.Bits.{below}
@@ -10,7 +11,7 @@ use Rattle.rule.specs.Tests.{each, keep}
 use Rattle.rule.specs.Level.{levelCount, size}
 use Rattle.rule.specs.Order.{askedBefore, packed}
 use Rattle.rule.specs.Refusals.{Row, refusal}
-use Rattle.rule.specs.Text.{text, digitByte, decimal, lineEnd, readLine}
+use Rattle.rule.specs.Text.{text, digitByte, number, lineEnd, readLine}
 
 -- ---- the table's line
 
@@ -33,49 +34,63 @@ flagsOf line = flagsFrom 11 0 (length line)
 abbrev pub lineRows : List ℕ → List Row
 lineRows line = (ltb 1024 (length line), 1) ∷ (ltb 10 (flagsOf line), 2) ∷ (not (each isDigit line), 3) ∷ []
 
--- "nine or ten flags `refused 8`": "The workspace is 6,561 cells", 3^8
-abbrev pub nineFlags : List ℕ → Row
-nineFlags line = (ltb 8 (flagsOf line), 8)
+-- "The workspace is 6,561 cells."
+abbrev pub workspaceCells : ℕ
+workspaceCells = 6561
+
+-- "nine or ten flags `refused 8`": for them that is "shorter than 3^n cells"
+abbrev pub shortWorkspace : ℕ → Row
+shortWorkspace n = (ltb workspaceCells (3 ^ n), 8)
 
 abbrev pub listingRows : List ℕ → List Row
-listingRows line = lineRows line ++ (nineFlags line ∷ [])
+listingRows line = lineRows line ++ (shortWorkspace (flagsOf line) ∷ [])
 
 -- ---- what is printed
 
--- a blank and a number; several
-abbrev pub number : ℕ → List ℕ
-number x = text " " ++ decimal x
-
+-- numbers, each behind a blank
 unfoldable pub numbers : List ℕ → List ℕ
 numbers [] = []
 numbers (x ∷ xs) = number x ++ numbers xs
+
+-- a line of a word and a number
+abbrev pub wordLine : String → ℕ → List ℕ
+wordLine word x = text word ++ (number x ++ lineEnd)
+
+-- "A `flag` line has the flag and its nodes"
+abbrev pub flagLine : ℕ → ℕ → List ℕ
+flagLine v nodes = text "flag" ++ (number v ++ (number nodes ++ lineEnd))
+
+-- the lines of these flags, with the nodes that `asked` gives each
+unfoldable pub flagLines : (ℕ → ℕ) → List ℕ → List ℕ
+flagLines asked [] = []
+flagLines asked (v ∷ vs) = flagLine v (asked v) ++ flagLines asked vs
+
+-- "With no flags the `order` line is the bare word."
+abbrev pub orderLine : List ℕ → List ℕ
+orderLine order = text "order" ++ (numbers order ++ lineEnd)
 
 -- the nodes asking flag v in the packed diagram
 abbrev pub askingPacked : ℕ → List ℕ → ℕ → ℕ
 askingPacked n t v = levelCount (askedBefore v (packed n t)) v t
 
--- "A `flag` line has the flag and its nodes, by rising flag."
-unfoldable pub flagLines : ℕ → List ℕ → List ℕ → List ℕ
-flagLines n t [] = []
-flagLines n t (v ∷ vs) = text "flag" ++ (number v ++ (number (askingPacked n t v) ++ (lineEnd ++ flagLines n t vs)))
-
 -- "`yes` is the number of all 2^n rows that say yes."
 abbrev pub yesCount : List ℕ → ℕ
 yesCount t = length (keep (eqb 1) t)
 
--- what is printed of a table of n flags; "With no flags the `order` line is the bare word."
+-- what is printed of a table of n flags; its flag lines "by rising flag"
 unfoldable pub listed : ℕ → List ℕ → List ℕ
 listed n t =
-    text "flags" ++ (number n ++ (lineEnd
-    ++ (text "nodes" ++ (number (size (packed n t) t) ++ (lineEnd
-    ++ (text "order" ++ (numbers (packed n t) ++ (lineEnd
-    ++ (flagLines n t (below n)
-    ++ (text "yes" ++ (number (yesCount t) ++ lineEnd)))))))))))
+    wordLine "flags" n
+    ++ (wordLine "nodes" (size (packed n t) t)
+    ++ (orderLine (packed n t)
+    ++ (flagLines (askingPacked n t) (below n)
+    ++ wordLine "yes" (yesCount t))))
 
-abbrev pub listedOr : ℕ → List ℕ → List ℕ
-listedOr zero line = listed (flagsOf line) (rowsOf line)
-listedOr (suc k) line = text "refused" ++ (number (suc k) ++ lineEnd)
+-- and under a refusal's number
+abbrev pub listedOr : ℕ → ℕ → List ℕ → List ℕ
+listedOr zero n t = listed n t
+listedOr (suc k) n t = wordLine "refused" (suc k)
 
 -- all that the program prints, for what it finds on standard input: "It reads standard input up to the first byte 0A, or to the end"; what is left is ignored
 unfoldable pub listing : List ℕ → List ℕ
-listing input = let line = readLine input .0 in listedOr (refusal (listingRows line)) line
+listing input = let line = readLine input .0 in listedOr (refusal (listingRows line)) (flagsOf line) (rowsOf line)

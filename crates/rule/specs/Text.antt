@@ -24,6 +24,10 @@ decimalIn (suc fuel) x = elim (ltb x 10) [ true ↦ digitByte x ∷ [] | false �
 abbrev pub decimal : ℕ → List ℕ
 decimal x = decimalIn x x
 
+-- a blank and a number
+abbrev pub number : ℕ → List ℕ
+number x = text " " ++ decimal x
+
 -- a line end
 abbrev pub lineEnd : List ℕ
 lineEnd = 0x0A ∷ []

@@ -1,6 +1,6 @@
 -- Rows of the refusal table that apply or pass, and the reply that follows.
 -- Assumes nothing.
-use mathlib.Core.Path.{_≡_, refl}
+use mathlib.Core.Path.{_≡_, refl, ap}
 use mathlib.Core.Bool.{Bool, true, false, _&&_}
 use mathlib.Core.List.{List, [], _∷_, _++_, map}
 use Prim.Native.Nat.{ℕ, zero, suc}
@@ -8,7 +8,7 @@ use native.Mathlib.Omega.{arith}
 use borrow.Author.Tests.{ltb-true}
 use lib.Dec.{ltb}
 use Rattle.rule.specs.Refusals.{Row, refusal}
-use Rattle.rule.specs.Reply.{refused, reply}
+use Rattle.rule.specs.Reply.{Reply, accepted, refused, reply}
 use Rattle.theory.proofs.Tests.{and-split}
 
 -- the number of each row is one of the table's, not 0
@@ -37,3 +37,16 @@ passed-more ((false, k) ∷ rows) more h e = passed-more rows more (and-split (l
 pub refused-reply : (k : ℕ) (values : List ℕ) → (k ≡ 0 → ⊥) → refused k (map (λ v. 0) values) ≡ reply k values
 refused-reply zero values d = absurd (d refl)
 refused-reply (suc k) values d = refl
+
+-- a reply tells the number that it came of, and the values
+abbrev isRefused : Reply → ℕ
+isRefused (accepted l) = 0
+isRefused (refused k l) = 1
+
+pub refused-is : (k j : ℕ) (zs values : List ℕ) → refused k zs ≡ reply j values → (k ≡ j) × (j ≡ 0 → ⊥)
+refused-is k zero zs values e = let q = ap isRefused e in absurd (omega arith)
+refused-is k (suc j) zs values e = (cc, λ q. omega arith)
+
+pub accepted-is : (j : ℕ) (xs values : List ℕ) → accepted xs ≡ reply j values → (j ≡ 0) × (xs ≡ values)
+accepted-is zero xs values e = (refl, cc)
+accepted-is (suc j) xs values e = let q = ap isRefused e in absurd (omega arith)

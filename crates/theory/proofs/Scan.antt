@@ -1,5 +1,5 @@
 -- What a loop over a list, over the rest of a list or over the numbers below n learns of a test of each: it fails where one fails. (That it holds where all
--- hold is `at-each` and `below-each` of Tests.antt, and `drop-holds` here.)
+-- hold is `at-each` and `below-each` of Tests.antt, and `drop-holds` here.) And what a loop that counts those that pass has counted.
 -- Assumes nothing.
 use mathlib.Core.Path.{_≡_, refl, sym, ap, _∙_}
 use mathlib.Core.Bool.{Bool, true, false, true≢false}
@@ -9,8 +9,8 @@ use native.Mathlib.Nat.{le-of-suc-le-suc, not-suc-le-zero}
 use native.Mathlib.Omega.{arith}
 use lib.ListN.{length, getD, drop, length-drop}
 use lib.Seq.{getD-drop}
-use Rattle.rule.specs.Bits.{below}
-use Rattle.rule.specs.Tests.{each}
+use Rattle.rule.specs.Bits.{from, below}
+use Rattle.rule.specs.Tests.{each, addIf, keep}
 use Rattle.theory.proofs.Member.{In, head, tail}
 use Rattle.theory.proofs.Bits.{in-below}
 use Rattle.theory.proofs.Tests.{each-in, at-each}
@@ -43,3 +43,30 @@ module _ (p : ℕ → Bool) where
   drop-holds a l f =
       at-each p (drop a l) 0
       (λ i h. let q : i < length l - a = simp length-drop at h in ap p (getD-drop a l i 0) ∙ f (a + i) (omega arith) (omega arith))
+
+-- ---- a count over the numbers below k
+
+-- one more where the test passes
+abbrev pub more : Bool → ℕ
+more true = 1
+more false = 0
+
+counted-from : (p : ℕ → Bool) (a k : ℕ) → length (keep p (from a (suc k))) ≡ length (keep p (from a k)) + more (p (a + k))
+unfolding keep from
+counted-from p a zero = let e : a + 0 ≡ a = omega arith in rw e (go (p a))
+  where
+    go : (b : Bool) → length (addIf b a []) ≡ 0 + more b
+    go true = refl
+    go false = refl
+counted-from p a (suc k) = go (p a) (counted-from p (suc a) k)
+  where
+    go : (b : Bool) → length (keep p (from (suc a) (suc k))) ≡ length (keep p (from (suc a) k)) + more (p (suc a + k))
+        → length (addIf b a (keep p (from (suc a) (suc k)))) ≡ length (addIf b a (keep p (from (suc a) k))) + more (p (a + suc k))
+    go true e = let q : suc a + k ≡ a + suc k = omega arith in omega (arith, e, ap (λ (x : ℕ). more (p x)) q)
+    go false e = let q : suc a + k ≡ a + suc k = omega arith in omega (arith, e, ap (λ (x : ℕ). more (p x)) q)
+
+pub counted : (p : ℕ → Bool) (k : ℕ) → length (keep p (below (k + 1))) ≡ length (keep p (below k)) + more (p k)
+counted p k =
+    let e : k + 1 ≡ suc k = omega arith in
+    let z : 0 + k ≡ k = omega arith in
+    ap (λ (x : ℕ). length (keep p (below x))) e ∙ counted-from p 0 k ∙ ap (λ (x : ℕ). length (keep p (below k)) + more (p x)) z

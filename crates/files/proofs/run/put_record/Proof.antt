@@ -2,7 +2,7 @@
 -- Assumes nothing.
 use native.Mathlib.Omega.{arith}
 use borrow.Author.Needs.{needs}
-use Rattle.files.proofs.Puts.{puts-more}
+use Rattle.runs.proofs.Puts.{puts-more}
 use Rattle.files.proofs.run.put_record.Statement.{statement}
 use Rattle.files.proofs.run.put_record.Tie as tie
 

@@ -8,8 +8,9 @@ use denote.Ref.{now}
 use lib.ListN.{length}
 use Rattle.rule.specs.Bits.{from}
 use Rattle.rule.specs.Files.{recordBytes, recordsIn}
-use Rattle.files.specs.Run.{Puts}
-use Rattle.files.proofs.Puts.{puts-none, puts-record, puts-length, length-records}
+use Rattle.runs.specs.Run.{Puts}
+use Rattle.runs.proofs.Puts.{puts-none, puts-length}
+use Rattle.files.proofs.Puts.{puts-record, length-records}
 use Rattle.files.proofs.run.put_records.Statement.{statement}
 use Rattle.files.proofs.run.put_records.Tie as tie
 

@@ -1,7 +1,7 @@
 -- `files::run::put_two` meets its contract: the low byte, and the high one behind it.
 -- Assumes nothing.
 use borrow.Author.Needs.{needs}
-use Rattle.files.proofs.Puts.{puts-more}
+use Rattle.runs.proofs.Puts.{puts-more}
 use Rattle.files.proofs.run.put_two.Statement.{statement}
 use Rattle.files.proofs.run.put_two.Tie as tie
 

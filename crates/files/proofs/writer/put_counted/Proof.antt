@@ -5,7 +5,8 @@ use native.Mathlib.Omega.{arith}
 use borrow.Author.Needs.{needs}
 use denote.Ref.{now}
 use Rattle.rule.specs.Files.{two, recordBytes, recordsIn}
-use Rattle.files.proofs.Puts.{puts-none, puts-more, length-records}
+use Rattle.runs.proofs.Puts.{puts-none, puts-more}
+use Rattle.files.proofs.Puts.{length-records}
 use Rattle.files.proofs.Written.{some-list, some-long}
 use Rattle.files.proofs.writer.put_counted.Statement.{statement}
 use Rattle.files.proofs.writer.put_counted.Tie as tie

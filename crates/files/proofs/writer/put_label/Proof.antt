@@ -5,7 +5,7 @@ use native.Mathlib.Omega.{arith}
 use borrow.Author.Needs.{needs}
 use denote.Ref.{now}
 use lib.ListN.{length}
-use Rattle.files.proofs.Puts.{puts-none, puts-more}
+use Rattle.runs.proofs.Puts.{puts-none, puts-more}
 use Rattle.files.proofs.Written.{some-list, some-long}
 use Rattle.files.proofs.writer.put_label.Statement.{statement}
 use Rattle.files.proofs.writer.put_label.Tie as tie

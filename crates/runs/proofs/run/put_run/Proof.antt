@@ -1,4 +1,4 @@
--- `files::run::put_run` meets its contract: the first i bytes of the run are copied.
+-- `runs::run::put_run` meets its contract: the first i bytes of the run are copied.
 -- Assumes nothing.
 use mathlib.Core.Path.{_≡_, ap, _∙_}
 use Prim.Native.Nat.{_+_, _-_, _≤_}
@@ -8,9 +8,9 @@ use borrow.Author.Needs.{needs}
 use denote.Ref.{now}
 use lib.ListN.{length, getD, set}
 use lib.Seq.{paste, paste-zero, paste-suc, length-paste}
-use Rattle.files.proofs.Puts.{puts-run}
-use Rattle.files.proofs.run.put_run.Statement.{statement}
-use Rattle.files.proofs.run.put_run.Tie as tie
+use Rattle.runs.proofs.Puts.{puts-run}
+use Rattle.runs.proofs.run.put_run.Statement.{statement}
+use Rattle.runs.proofs.run.put_run.Tie as tie
 
 abbrev Inv-loop : tie.InvT-loop
 Inv-loop bytes₀ at run i₀ bytes i = (i ≤ length run) × (length bytes ≡ length bytes₀) × (bytes ≡ paste bytes₀ at run i)

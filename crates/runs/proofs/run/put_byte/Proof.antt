@@ -1,9 +1,9 @@
--- `files::run::put_byte` meets its contract: one store.
+-- `runs::run::put_byte` meets its contract: one store.
 -- Assumes nothing.
 use borrow.Author.Needs.{needs}
-use Rattle.files.proofs.Puts.{puts-one}
-use Rattle.files.proofs.run.put_byte.Statement.{statement}
-use Rattle.files.proofs.run.put_byte.Tie as tie
+use Rattle.runs.proofs.Puts.{puts-one}
+use Rattle.runs.proofs.run.put_byte.Statement.{statement}
+use Rattle.runs.proofs.run.put_byte.Tie as tie
 
 pub put-byte-spec : {M : Type 1} → statement M
 put-byte-spec =

@@ -1,0 +1,5 @@
+pub mod FirstLine
+pub mod Characters
+pub mod Counts
+pub mod Printed
+pub mod Listed

@@ -1,0 +1,8 @@
+// Runs of bytes written into lent ones, one behind the other: each call hands back the next place.
+mod decimal;
+mod run;
+
+pub use decimal::put_line;
+pub use decimal::put_number;
+pub use run::put_byte;
+pub use run::put_run;
