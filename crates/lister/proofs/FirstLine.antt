@@ -23,7 +23,7 @@ line-ends : (b : ℕ) (bs : List ℕ) → b ≡ 10 → readLine (b ∷ bs) .0 �
 unfolding readLine
 line-ends b bs e = ap (λ (q : Bool). lineBy q b bs .0) (eq-eqb b 10 e)
 
-line-goes-on : (b : ℕ) (bs : List ℕ) → (b ≡ 10 → ⊥) → readLine (b ∷ bs) .0 ≡ b ∷ readLine bs .0
+pub line-goes-on : (b : ℕ) (bs : List ℕ) → (b ≡ 10 → ⊥) → readLine (b ∷ bs) .0 ≡ b ∷ readLine bs .0
 unfolding readLine
 line-goes-on b bs d = ap (λ (q : Bool). lineBy q b bs .0) (ne-eqb b 10 d)
 

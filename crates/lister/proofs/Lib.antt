@@ -3,3 +3,4 @@ pub mod Characters
 pub mod Counts
 pub mod Printed
 pub mod Listed
+pub mod Enough

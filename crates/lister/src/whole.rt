@@ -54,7 +54,7 @@ fn list_line(line: &[u8], out: &mut [u8]) -> usize
 
 // The listing of an input, in the first of the lent bytes; how many they are.
 pub fn listing(input: &[u8], out: &mut [u8; PRINTED]) -> usize
-    ensures { λ r. ⌜ Puts (now (out .entry)) 0 (listing (now (input .entry))) r (now (out .exit)) ⌝ }
+    ensures { λ r. ⌜ Puts (now (out .entry)) 0 (listing (now (input .entry))) r (now (out .exit)) × (r ≤ length (now (out .exit))) ⌝ }
 {
     let end = line_end(input);
     list_line(&input[0..end], out)

@@ -56,6 +56,19 @@ pub puts-one : (b : List ℕ) (at v : ℕ) → at < length b → Puts b at (v �
 unfolding over
 puts-one b at v h = record { next-is = refl; after-is = sets-eq (v ∷ []) b at (omega arith) }
 
+-- a run that went into bytes of one length ends within them
+pub puts-within : {b x d : List ℕ} {at m : ℕ} → Puts b at x m d → at ≤ length b → length d ≡ length b → m ≤ length b
+unfolding over
+puts-within {b} {x} {d} {at} p h e =
+    let l = ap length (p .after-is) in
+    omega (
+      arith,
+      p .next-is,
+      length-append (take at b ++ x) (drop (at + length x) b),
+      length-append (take at b) x,
+      length-take-le at b h,
+    )
+
 -- a run copied whole
 pub puts-run : (b : List ℕ) (at : ℕ) (run : List ℕ) (i : ℕ) {d : List ℕ} → d ≡ paste b at run i → i ≡ length run → Puts b at run (at + i) d
 unfolding over
