@@ -4,7 +4,7 @@
 use crate::file_edges::{edges, given, reads};
 use crate::file_lines::{answer, play, say_write};
 use crate::files::{bytes_of, read, records_of, write, Filed};
-use crate::{collapse, Dice, CELLS};
+use crate::{collapse, recast, table_from, Dice, CELLS};
 use std::collections::BTreeSet;
 
 /// The test program reads its input in one piece, of fewer bytes than these.
@@ -78,20 +78,37 @@ fn all_values(map: usize, filed: &Filed, most: usize) -> Vec<String> {
     reads(&file, &[]).into_iter().chain(each).collect()
 }
 
-/// A rule that is written, read back, and written into one byte fewer.
-fn back(dice: &mut Dice, n: usize) -> Vec<String> {
+/// A rule of ten flags with as many nodes as there can be, so that counts and nodes take two bytes:
+/// the first seven flags asked lead to a part of their own each, which asks the eighth.
+fn largest(dice: &mut Dice) -> Filed {
+    let (order, parts) = (dice.order(10), dice.order(256));
+    let asks =
+        |part: &usize| [0, 2, 4, 6].iter().any(|low| (part >> low) & 1 != (part >> low >> 1) & 1);
+    let parts: Vec<usize> = parts.into_iter().filter(asks).collect();
+    let table = table_from(10, |row| (parts[row % 128] >> (row / 128)) & 1 == 1);
+    let (records, root) = records_of(&collapse(&recast(&table, 10, &order), &order));
+    assert_eq!(records.len(), 127 + 128 + 12 + 2);
+    Filed { order, label: b"ten".to_vec(), records, root }
+}
+
+/// A random rule of n flags.
+fn any(dice: &mut Dice, n: usize) -> Filed {
     let (order, label) = (dice.order(n), dice.label());
-    let filed = dice.filed(order, &label, 0, CELLS / 3);
-    let given = given(&filed);
+    dice.filed(order, &label, 0, CELLS / 3)
+}
+
+/// A rule that is written, read back, read into cells for one record fewer, and written into one
+/// byte fewer.
+fn back(dice: &mut Dice, filed: &Filed) -> Vec<String> {
+    let (given, exact) = (given(filed), 3 * filed.records.len());
     let file = write(&given, usize::MAX).expect("a diagram");
-    let exact = given.cells.len();
-    assert_eq!(read(&file, exact), Ok(filed));
-    let more = dice.below(3);
-    let mut lines = vec![say_write(&given, file.len() + more), format!("r {exact}")];
+    assert_eq!(read(&file, exact).as_ref(), Ok(filed));
+    let bytes = file.len() + dice.below(3);
+    let mut lines = vec![say_write(&given, bytes), format!("r {exact}")];
     if exact > 0 {
         lines.push(format!("r {}", exact - 3));
     }
-    lines.extend(Some(say_write(&given, file.len() - 1)).filter(|_| dice.below(4) == 0));
+    lines.extend(Some(say_write(&given, file.len() - 1)).filter(|_| dice.one_in(4)));
     lines
 }
 
@@ -108,8 +125,7 @@ fn fit_map(dice: &mut Dice, filed: &Filed) -> usize {
 /// A file of up to three flags, with up to three bytes changed, new or gone.
 fn random(dice: &mut Dice) -> Vec<String> {
     let n = dice.below(4);
-    let (order, label) = (dice.order(n), dice.label());
-    let filed = dice.filed(order, &label, 0, 9);
+    let filed = any(dice, n);
     let mut file = bytes_of(fit_map(dice, &filed), &filed);
     for _ in 0..dice.below(4) {
         let (at, byte) = (dice.below(file.len()), dice.below(12) as u8);
@@ -145,9 +161,9 @@ pub fn vectors() -> (String, String) {
     goods.iter().for_each(|(map, filed)| lines.extend(damaged(*map, filed)));
     lines.extend(all_values(one.0, &one.1, usize::MAX));
     lines.extend(all_values(three.0, &three.1, 10));
-    for n in [0, 1, 2, 3, 4, 5, 6].into_iter().cycle().take(42).chain([8, 10]) {
-        lines.extend(back(&mut dice, n));
-    }
+    let mut rules: Vec<Filed> = (0..42).map(|i| any(&mut dice, i % 7)).collect();
+    rules.extend([any(&mut dice, 8), largest(&mut dice)]);
+    rules.iter().for_each(|filed| lines.extend(back(&mut dice, filed)));
     (0..150).for_each(|_| lines.extend(random(&mut dice)));
     let input: String = lines.iter().map(|line| format!("{line}\n")).collect();
     assert!(input.len() < INPUT, "{} bytes of input", input.len());

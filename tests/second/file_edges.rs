@@ -2,7 +2,7 @@
 //! sides of its edge, and each ahead of those that come after it.
 
 use crate::file_lines::{hex, say_write, WORKED};
-use crate::files::{bytes_of, write, Filed, Given, Record};
+use crate::files::{are_sound, bytes_of, write, Filed, Given, Record};
 use crate::{numbers, CELLS};
 
 /// Files, and the numbers of cells that they are read into.
@@ -243,8 +243,8 @@ const WRITES: &[&str] = &[
     "1 00 1 2 12 41 3 0 0 1",
 ];
 
-/// A file of three flags with a label of two bytes and records, at two faults; the cells hold the
-/// records exactly.
+/// What may be wrong with a file of three flags that has a label of two bytes and records, or with
+/// its cells, which hold the records exactly. Each stands where the reader meets it.
 const FILE_FAULTS: &[fn(&mut Vec<u8>, &mut usize)] = &[
     |_, cells| *cells += 1,
     |file, _| file[0] |= 0x20,
@@ -260,7 +260,7 @@ const FILE_FAULTS: &[fn(&mut Vec<u8>, &mut usize)] = &[
     |file, _| file.truncate(file.len() - 1),
 ];
 
-/// The same for a write into exactly as many bytes as the file has.
+/// What may be wrong with a write of the same rule into as many bytes as its file has.
 const WRITE_FAULTS: &[fn(&mut Given, &mut usize)] = &[
     |given, _| given.n = 11,
     |given, _| given.order[0] = given.order[1],
@@ -323,8 +323,10 @@ fn records() -> Vec<String> {
 }
 
 /// As many records as all the cells hold, sound but not all reached: those that ask a flag have all
-/// pairs of the nodes that ask later ones for children.
+/// pairs of the nodes that ask later ones for children. Then one record, and a last cell that is
+/// not 0.
 fn most() -> Vec<String> {
+    let order: Vec<usize> = (0..10).collect();
     let mut records: Vec<Record> = Vec::new();
     for flag in [9, 8, 7, 6] {
         let nodes = records.len() + 2;
@@ -332,9 +334,14 @@ fn most() -> Vec<String> {
         records.extend(pairs.filter(|record| record[1] != record[2]));
         records.truncate(CELLS / 3);
     }
-    let filed = Filed { order: (0..10).collect(), label: vec![], records, root: CELLS / 3 + 1 };
+    assert!(are_sound(&records, &order) && records.len() == CELLS / 3);
+    let filed = Filed { order, label: vec![], records, root: CELLS / 3 + 1 };
     let mut lines = reads(&bytes_of(0b1001, &filed), &[CELLS - 3, CELLS]);
-    lines.push(say_write(&given(&filed), CELLS));
+    let mut given = given(&filed);
+    lines.push(say_write(&given, CELLS));
+    given.cells[3..CELLS - 1].fill(0);
+    (given.used, given.root) = (1, 2);
+    lines.push(say_write(&given, CELLS));
     lines
 }
 

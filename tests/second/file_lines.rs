@@ -51,6 +51,18 @@ pub const WORKED: &[(&str, &str)] = &[
          n 1 order 0000000000 records 1 root 2 label - cells 0 0 1 rest 0;\
          bytes 2 1300 rest kept;refused 10 kept;refused 11 kept",
     ),
+    // Flag 0 and flag 1, flag 1 asked first, with a label; then each of the writer's refusals.
+    (
+        "w 2 0100 2 3 20 417e 6 0 0 1 1 0 2;r 6;r 3;w 11 0100 2 3 19 417e 6 0 0 1 1 0 2;\
+         w 2 0101 2 3 19 417e 6 0 0 1 1 0 2;w 2 0100 2 3 19 417e 7 0 0 1 1 0 2;\
+         w 2 0100 2 2 19 417e 6 0 0 1 1 0 2;w 2 0001 2 3 19 417e 6 0 0 1 1 0 2;\
+         w 2 0100 2 4 19 417e 6 0 0 1 1 0 2;w 2 0100 2 3 19 417f 6 0 0 1 1 0 2;\
+         w 2 0100 2 3 18 417e 6 0 0 1 1 0 2",
+        "bytes 19 0f02010002417e020000000001000100000200 rest kept;\
+         n 2 order 1000000000 records 2 root 3 label 417e cells 0 0 1 1 0 2 rest 0;\
+         refused 10 kept;refused 1 kept;refused 4 kept;refused 5 kept;refused 6 kept;\
+         refused 6 kept;refused 7 kept;refused 13 kept;refused 10 kept",
+    ),
     // Fields left out, a label, and what is cut off or too much: `00` has no field at all.
     (
         "f 00;r 0;a 0 65;f 050202417e;r 3;c 3;a 3 0",

@@ -45,7 +45,7 @@ pub fn records_of(diagram: &Diagram) -> (Vec<Record>, usize) {
 
 /// "each flag is below n; low and high differ and are smaller than the record's own node number; a
 /// child that is a record asks a flag standing later in the order; no two used records are equal".
-fn are_sound(records: &[Record], order: &[usize]) -> bool {
+pub fn are_sound(records: &[Record], order: &[usize]) -> bool {
     let place = |flag: usize| order.iter().position(|&at| at == flag);
     (0..records.len()).all(|k| {
         let [flag, low, high] = records[k];
