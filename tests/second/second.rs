@@ -11,6 +11,7 @@ mod damaged;
 mod file_edges;
 mod file_lines;
 mod files;
+mod listing;
 mod lists;
 mod play;
 mod scribe;
@@ -174,22 +175,6 @@ fn is_order(order: &[usize], n: usize) -> bool {
         && order.iter().skip(n).all(|&place| place == 0)
 }
 
-/// "It reads standard input up to the first byte 0A, or to the end"; each byte is a row.
-fn list(input: &[u8]) -> Result<String, usize> {
-    let line = input.split(|&byte| byte == b'\n').next().unwrap_or(input);
-    refuse(&[
-        (1, line.len() > 1024),
-        (2, !line.len().is_power_of_two()),
-        (3, line.iter().any(|byte| !b"01".contains(byte))),
-        (8, line.len() > 256), // nine or ten flags
-    ])?;
-    let table: Vec<usize> = line.iter().map(|byte| usize::from(byte - b'0')).collect();
-    let Drawing { order, nodes, flags, .. } = draw_packed(&table);
-    let head = format!("flags {}\nnodes {nodes}\n{}\n", flags.len(), phrase("order", &order));
-    let each = flags.iter().enumerate().map(|(flag, count)| format!("flag {flag} {count}\n"));
-    Ok(head + &each.collect::<String>() + &phrase("yes", &[table.iter().sum()]))
-}
-
 /// A word with its numbers behind it; the bare word when there are none.
 fn phrase(word: &str, numbers: &[usize]) -> String {
     numbers.iter().fold(word.to_string(), |text, number| format!("{text} {number}"))
@@ -264,7 +249,7 @@ fn answer(ask: &str) -> Result<String, usize> {
     let words: Vec<&str> = ask.split(' ').collect();
     let number = |at: usize| words[at].parse::<usize>().expect("a number");
     let (order, workspace) = match words[0] {
-        "list" => return list(digits(&numbers(words[1])).as_bytes()),
+        "list" => return listing::list(digits(&numbers(words[1])).as_bytes()),
         // "An order is kept in ten bytes, the places from n on being 0."
         "build" => (Some([numbers(words[4]), vec![0; 10 - words[4].len()]].concat()), 0),
         _ => (None, number(4)),
@@ -423,7 +408,10 @@ fn vectors(directory: &str) -> std::io::Result<()> {
     std::fs::write(format!("{directory}/store.out"), store_out)?;
     let (file_in, file_out) = damaged::vectors();
     std::fs::write(format!("{directory}/file.in"), file_in)?;
-    std::fs::write(format!("{directory}/file.out"), file_out)
+    std::fs::write(format!("{directory}/file.out"), file_out)?;
+    let (listing_in, listing_out) = listing::vectors();
+    std::fs::write(format!("{directory}/listing.in"), listing_in)?;
+    std::fs::write(format!("{directory}/listing.out"), listing_out)
 }
 
 /// Gives the exit code, or None for any other use.
@@ -432,7 +420,7 @@ fn run(words: &[&str]) -> Option<i32> {
     match words {
         ["check"] => return Some(check()),
         ["vectors", directory] => vectors(directory).expect("DIR can be written"),
-        ["list"] => println!("{}", or_refused(list(&input()))),
+        ["list"] => print!("{}", listing::say(&input())),
         ["file"] => print!("{}", file_lines::play(&String::from_utf8(input()).ok()?)),
         ["store"] => print!("{}", play::play(&String::from_utf8(input()).ok()?)),
         _ => return None,
