@@ -1,5 +1,5 @@
-//! Rule files that are read and written, a line a call or several, and the answer to each call. Words
-//! stand one blank apart.
+//! Rule files that are read and written, a line a call or several, and the answer to each call.
+//! Words stand one blank apart.
 //!
 //!     f FILE            the file is these bytes
 //!     r CELLS           reads it into so many lent cells, 7 in each
@@ -30,8 +30,8 @@ use crate::{digits, or_refused, phrase};
 
 /// Input and what is printed for it, the lines parted by `;`.
 pub const WORKED: &[(&str, &str)] = &[
-    // The paper's settled files. The first, in the reader's words: bits 0, 1 and 3; n 1; flag 0 asked
-    // first; one record, which asks flag 0 and goes to node 0 and node 1.
+    // The paper's settled files. The first: bits 0, 1 and 3; n 1; flag 0 asked first; one record,
+    // which asks flag 0 and goes to node 0 and node 1.
     (
         "f 0b010001000000000100;r 3;r 6;r 3072;r 0;r 4;r 3075",
         "n 1 order 0000000000 records 1 root 2 label - cells 0 0 1 rest 0;\

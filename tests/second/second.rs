@@ -1,10 +1,10 @@
 //! The second program: an oracle for the diagram engine, written apart from it. From a table it
 //! draws the full decision tree, applies the two collapsing steps of document 001, section 2.1,
 //! as they are worded, and finds the packed order by trying every order. It keeps a store by
-//! tables alone, and the plain book beside it; it reads and writes rule files. It checks the papers'
-//! examples, writes test vectors, lists a table and plays lines of files and of store calls. "The
-//! paper" below is document 01; `Err` holds the number of a refusal. Build: rustc -O --edition 2021
-//! second.rs
+//! tables alone, and the plain book beside it, and reads and writes rule files. It checks the
+//! papers' examples, writes test vectors, lists a table and plays lines of files and of store
+//! calls. "The paper" below is document 01; `Err` holds the number of a refusal. Build:
+//! rustc -O --edition 2021 second.rs
 
 mod book;
 mod damaged;
@@ -21,7 +21,7 @@ mod worked;
 use std::collections::HashSet;
 use std::io::Read;
 
-/// The most cells that may be lent, and those lent to the reader here; a record takes three.
+/// The most cells that may be lent; a record takes three.
 const CELLS: usize = 3072;
 
 /// A node of a tree or diagram; its low and high sons are places in `Diagram::nodes`.
@@ -189,7 +189,8 @@ fn or_refused(answer: Result<String, usize>) -> String {
 }
 
 /// What is asked, and those parts of the answer that the papers name: `build N TABLE CELLS ORDER`,
-/// `pack N TABLE CELLS WORKSPACE` or `list TABLE`; the table `01*8` is 01 eight times. Ten flags are tried by build only: pack would have 10! orders to draw.
+/// `pack N TABLE CELLS WORKSPACE` or `list TABLE`; the table `01*8` is 01 eight times. Ten flags
+/// are tried by build only: pack would have 10! orders to draw.
 const EXAMPLES: &[(&str, &str)] = &[
     // Document 01, settled examples.
     ("pack 0 1 3072 1", "nodes 0; root 1"),
