@@ -1,11 +1,17 @@
 //! The second program: an oracle for the diagram engine, written apart from it. From a table it
 //! draws the full decision tree, applies the two collapsing steps of document 001, section 2.1,
 //! as they are worded, and finds the packed order by trying every order. It keeps a store by
-//! tables alone, and the plain book beside it. It checks the papers' examples, writes test vectors,
-//! lists a table, reads rule files and plays lists of store calls. "The paper" below is document
-//! 01; `Err` holds the number of a refusal. Build: rustc -O --edition 2021 second.rs
+//! tables alone, and the plain book beside it, and reads and writes rule files. It checks the
+//! papers' examples, writes test vectors, lists a table and plays lines of files and of store
+//! calls. "The paper" below is document 01; `Err` holds the number of a refusal. Build:
+//! rustc -O --edition 2021 second.rs
 
 mod book;
+mod damaged;
+mod file_edges;
+mod file_lines;
+mod files;
+mod listing;
 mod lists;
 mod play;
 mod scribe;
@@ -15,7 +21,7 @@ mod worked;
 use std::collections::HashSet;
 use std::io::Read;
 
-/// The most cells that may be lent, and those lent to the reader here; a record takes three.
+/// The most cells that may be lent; a record takes three.
 const CELLS: usize = 3072;
 
 /// A node of a tree or diagram; its low and high sons are places in `Diagram::nodes`.
@@ -87,8 +93,8 @@ struct Drawing {
     root: usize,
 }
 
-/// Draws the table under the order: the tree, collapsed until neither step applies.
-fn draw(table: &[usize], order: &[usize]) -> Drawing {
+/// The table under the order: the tree, collapsed until neither step applies.
+fn collapse(table: &[usize], order: &[usize]) -> Diagram {
     let mut diagram = Diagram { nodes: Vec::new(), root: 0 };
     diagram.root = diagram.grow(table, order, 0);
     assert_eq!(diagram.nodes.len() + 1, 2 << order.len(), "a tree has 2^(n+1) - 1 nodes");
@@ -101,6 +107,11 @@ fn draw(table: &[usize], order: &[usize]) -> Drawing {
     for (row, &answer) in table.iter().enumerate() {
         assert_eq!(diagram.walk(row), Node::Terminal(answer), "row {row} after the collapse");
     }
+    diagram
+}
+
+fn draw(table: &[usize], order: &[usize]) -> Drawing {
+    let diagram = collapse(table, order);
     let asks = |node: &Node, i: usize| matches!(node, Node::Internal(flag, _) if *flag == i);
     let count = |i: usize| diagram.nodes.iter().filter(|node| asks(node, i)).count();
     let flags: Vec<usize> = (0..order.len()).map(count).collect();
@@ -164,89 +175,6 @@ fn is_order(order: &[usize], n: usize) -> bool {
         && order.iter().skip(n).all(|&place| place == 0)
 }
 
-/// The next field of a file; 11 when it "runs past the end".
-fn take<'a>(rest: &mut &'a [u8], length: usize) -> Result<&'a [u8], usize> {
-    refuse(&[(11, length > rest.len())])?;
-    let (field, later) = rest.split_at(length);
-    *rest = later;
-    Ok(field)
-}
-
-/// "A diagram is sound cells in which every record can be reached from the root." A record is
-/// flag, low, high. Children have smaller numbers than parents and the root is the last record,
-/// so all are reached when each but the last is the child of a later one.
-fn is_diagram(records: &[[usize; 3]], order: &[usize]) -> bool {
-    let place = |flag: usize| order.iter().position(|&at| at == flag);
-    (0..records.len()).all(|k| {
-        let [flag, low, high] = records[k];
-        let later = |child: usize| child < 2 || place(records[child - 2][0]) > place(flag);
-        flag < order.len()
-            && low != high
-            && [low, high].iter().all(|&child| child < k + 2 && later(child))
-            && !records[..k].contains(&records[k])
-            && (k + 1 == records.len() || records[k..].iter().any(|r| r[1..].contains(&(k + 2))))
-    })
-}
-
-/// "The reader tests 5 [never here], then the file from left to right, each field's 11 ahead of
-/// its contents, then 11 for bytes left over, then 6 for the records."
-fn read_file(file: &[u8]) -> Result<String, usize> {
-    let rest = &mut &file[..];
-    let map = take(rest, 1)?[0];
-    let stands = |bit: usize| (map >> bit) & 1 == 1;
-    refuse(&[(12, map >> 5 != 0 || (stands(3) && stands(4)))])?;
-    let n = if stands(0) { usize::from(take(rest, 1)?[0]) } else { 0 };
-    refuse(&[(1, n > 10)])?;
-    let mut order: Vec<usize> = (0..n).collect();
-    if stands(1) {
-        order = take(rest, n)?.iter().map(|&flag| usize::from(flag)).collect();
-        refuse(&[(4, !is_order(&order, n))])?;
-    }
-    let mut label = 0;
-    if stands(2) {
-        label = usize::from(take(rest, 1)?[0]);
-        refuse(&[(13, label == 0)])?;
-        let text = take(rest, label)?;
-        refuse(&[(13, text.iter().any(|byte| !(0x20..=0x7E).contains(byte)))])?;
-    }
-    let mut records = Vec::new();
-    if stands(3) {
-        let two = |bytes: &[u8]| usize::from(bytes[0]) + 256 * usize::from(bytes[1]);
-        let count = two(take(rest, 2)?);
-        refuse(&[(6, count == 0), (10, count > CELLS / 3)])?;
-        let record = |bytes: &[u8]| [usize::from(bytes[0]), two(&bytes[1..]), two(&bytes[3..])];
-        records = take(rest, 5 * count)?.chunks(5).map(record).collect();
-    }
-    refuse(&[(11, !rest.is_empty()), (6, !is_diagram(&records, &order))])?;
-    let count = records.len();
-    let root = if count == 0 { usize::from(stands(4)) } else { count + 1 };
-    Ok(format!("n {n} {} records {count} root {root} label {label}", phrase("order", &order)))
-}
-
-/// The answer to a file given as a line of hexadecimal pairs, or None if it is no such line.
-fn read_line(line: &str) -> Option<String> {
-    let is_pair = |pair: &str| pair.len() == 2 && pair.bytes().all(|b| b.is_ascii_hexdigit());
-    let byte = |pair| u8::from_str_radix(pair, 16).ok().filter(|_| is_pair(pair));
-    let file: Option<Vec<u8>> = line.split_whitespace().map(byte).collect();
-    file.map(|file| or_refused(read_file(&file)))
-}
-
-/// "It reads standard input up to the first byte 0A, or to the end"; each byte is a row.
-fn list(input: &[u8]) -> Result<String, usize> {
-    let line = input.split(|&byte| byte == b'\n').next().unwrap_or(input);
-    refuse(&[
-        (1, line.len() > 1024),
-        (2, !line.len().is_power_of_two()),
-        (3, line.iter().any(|byte| !b"01".contains(byte))),
-        (8, line.len() > 256), // nine or ten flags
-    ])?;
-    let table: Vec<usize> = line.iter().map(|byte| usize::from(byte - b'0')).collect();
-    let Drawing { order, nodes, flags, .. } = draw_packed(&table);
-    let head = format!("flags {}\nnodes {nodes}\n{}\n", flags.len(), phrase("order", &order));
-    let each = flags.iter().enumerate().map(|(flag, count)| format!("flag {flag} {count}\n"));
-    Ok(head + &each.collect::<String>() + &phrase("yes", &[table.iter().sum()]))
-}
-
 /// A word with its numbers behind it; the bare word when there are none.
 fn phrase(word: &str, numbers: &[usize]) -> String {
     numbers.iter().fold(word.to_string(), |text, number| format!("{text} {number}"))
@@ -261,8 +189,8 @@ fn or_refused(answer: Result<String, usize>) -> String {
 }
 
 /// What is asked, and those parts of the answer that the papers name: `build N TABLE CELLS ORDER`,
-/// `pack N TABLE CELLS WORKSPACE`, `list TABLE` or `file BYTES`; the table `01*8` is 01 eight
-/// times. Ten flags are tried by build only: pack would have 10! orders to draw.
+/// `pack N TABLE CELLS WORKSPACE` or `list TABLE`; the table `01*8` is 01 eight times. Ten flags
+/// are tried by build only: pack would have 10! orders to draw.
 const EXAMPLES: &[(&str, &str)] = &[
     // Document 01, settled examples.
     ("pack 0 1 3072 1", "nodes 0; root 1"),
@@ -280,9 +208,6 @@ const EXAMPLES: &[(&str, &str)] = &[
     ("build 4 0001000100011111 3072 0213", "nodes 6"),
     ("build 3 00100101 3072 012", "nodes 4"),
     ("build 3 00100101 3072 102", "nodes 5"),
-    ("file 0B 01 00 01 00 00 00 00 01 00", "n 1 order 0 records 1 root 2 label 0"),
-    ("file 13 00", "n 0 order records 0 root 1 label 0"),
-    ("file 10", "n 0 order records 0 root 1 label 0"),
     ("build 10 01*512 3072 0123456789", "nodes 1"),
     ("build 11 01*1024 3072 0123456789", "refused 1"),
     ("pack 11 01*1024 3072 177147", "refused 1"),
@@ -325,8 +250,7 @@ fn answer(ask: &str) -> Result<String, usize> {
     let words: Vec<&str> = ask.split(' ').collect();
     let number = |at: usize| words[at].parse::<usize>().expect("a number");
     let (order, workspace) = match words[0] {
-        "list" => return list(digits(&numbers(words[1])).as_bytes()),
-        "file" => return Ok(read_line(&ask[5..]).expect("hexadecimal pairs")),
+        "list" => return listing::list(digits(&numbers(words[1])).as_bytes()),
         // "An order is kept in ten bytes, the places from n on being 0."
         "build" => (Some([numbers(words[4]), vec![0; 10 - words[4].len()]].concat()), 0),
         _ => (None, number(4)),
@@ -347,7 +271,7 @@ fn answer(ask: &str) -> Result<String, usize> {
     Ok(format!("nodes {nodes}; {order}; {flags}; root {root}"))
 }
 
-/// Gives the exit code: 0 if every example agrees, and the store's own checks.
+/// Gives the exit code: 0 if every example agrees, and the store's and the files' own checks.
 fn check() -> i32 {
     let mut code = 0;
     for (ask, expected) in EXAMPLES {
@@ -357,12 +281,13 @@ fn check() -> i32 {
             code = 1;
         }
     }
-    for fault in worked::faults() {
+    for fault in worked::faults().into_iter().chain(file_lines::faults()) {
         println!("second: {fault}");
         code = 1;
     }
     if code == 0 {
-        println!("second: {} examples agree", EXAMPLES.len() + worked::LISTS.len());
+        let worked = worked::LISTS.len() + file_lines::WORKED.len();
+        println!("second: {} examples agree", EXAMPLES.len() + worked);
     }
     code
 }
@@ -481,7 +406,13 @@ fn vectors(directory: &str) -> std::io::Result<()> {
     std::fs::write(format!("{directory}/build.out"), build_out)?;
     let (store_in, store_out) = lists::vectors();
     std::fs::write(format!("{directory}/store.in"), store_in)?;
-    std::fs::write(format!("{directory}/store.out"), store_out)
+    std::fs::write(format!("{directory}/store.out"), store_out)?;
+    let (file_in, file_out) = damaged::vectors();
+    std::fs::write(format!("{directory}/file.in"), file_in)?;
+    std::fs::write(format!("{directory}/file.out"), file_out)?;
+    let (listing_in, listing_out) = listing::vectors();
+    std::fs::write(format!("{directory}/listing.in"), listing_in)?;
+    std::fs::write(format!("{directory}/listing.out"), listing_out)
 }
 
 /// Gives the exit code, or None for any other use.
@@ -490,12 +421,8 @@ fn run(words: &[&str]) -> Option<i32> {
     match words {
         ["check"] => return Some(check()),
         ["vectors", directory] => vectors(directory).expect("DIR can be written"),
-        ["list"] => println!("{}", or_refused(list(&input()))),
-        ["file"] => {
-            for line in String::from_utf8(input()).ok()?.lines() {
-                println!("{}", read_line(line)?);
-            }
-        }
+        ["list"] => print!("{}", listing::say(&input())),
+        ["file"] => print!("{}", file_lines::play(&String::from_utf8(input()).ok()?)),
         ["store"] => print!("{}", play::play(&String::from_utf8(input()).ok()?)),
         _ => return None,
     }
@@ -506,9 +433,7 @@ fn main() {
     let arguments: Vec<String> = std::env::args().skip(1).collect();
     let code = run(&arguments.iter().map(String::as_str).collect::<Vec<_>>());
     if code.is_none() {
-        eprintln!(
-            "usage: second check | vectors DIR | list <table | file <hex-lines | store <lists"
-        );
+        eprintln!("usage: second check | vectors DIR | list <table | file <lines | store <lists");
     }
     std::process::exit(code.unwrap_or(2));
 }

@@ -2,6 +2,7 @@
 use crate::draw::agrees;
 use crate::draw::flag_count;
 use crate::draw::flag_counts;
+use crate::lent::each_is;
 use crate::one::flags;
 use crate::print;
 use crate::read::digits;
@@ -15,18 +16,6 @@ const WORKSPACE: usize = 59052;
 
 // What a workspace is lent with.
 const JUNK: u16 = 5;
-
-// Whether each cell has the value.
-fn each_is(cells: &[u16], value: u16) -> bool {
-    let mut i = 0;
-    while i < cells.len() {
-        if cells[i] != value {
-            return false;
-        }
-        i += 1;
-    }
-    true
-}
 
 // A byte as a cell.
 fn wide(byte: u8) -> u16 {

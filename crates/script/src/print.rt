@@ -13,6 +13,11 @@ pub fn value(value: u16) {
     io::print_decimal(STDOUT_FILENO, value as u64);
 }
 
+// A length.
+pub fn size(size: usize) {
+    io::print_decimal(STDOUT_FILENO, size as u64);
+}
+
 // A word, a blank and a number.
 pub fn number(word: &[u8], number: u16) {
     io::write_all(STDOUT_FILENO, word);
@@ -46,6 +51,18 @@ pub fn rows(table: &[u8]) {
         i += 1;
     }
     io::write_all(STDOUT_FILENO, &text[0..i]);
+}
+
+// Bytes, two digits each, or `-` for none.
+pub fn bytes(bytes: &[u8]) {
+    if bytes.len() == 0 {
+        text(b"-");
+    }
+    let mut i = 0;
+    while i < bytes.len() {
+        io::print_hex(STDOUT_FILENO, wide(bytes[i]), 2);
+        i += 1;
+    }
 }
 
 // Said of a line that asks for more than the script can lend.

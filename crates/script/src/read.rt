@@ -4,13 +4,30 @@ use crate::pack;
 use crate::print;
 use libc::STDIN_FILENO;
 use rule::Order;
-ghost use Prim.Native.Nat.{_≤_};
+ghost use Prim.Native.Nat.{_<_, _≤_};
 ghost use lib.ListN.{length};
 
 // A number that was read, and the place behind it and the blank after it.
 pub struct Word {
     pub value: u16,
     pub next: usize,
+}
+
+// A number as a byte, 255 where it is above that: as a flag count and as an operator, refused either way.
+pub fn byte(value: u16) -> u8 {
+    if value < 256 { value as u8 } else { 255 }
+}
+
+// The place behind the word at a place and the blank after it.
+pub fn behind(text: &[u8], at: usize) -> usize {
+    let mut i = at;
+    while i < text.len() {
+        if text[i] == b' ' {
+            return i + 1;
+        }
+        i += 1;
+    }
+    i
 }
 
 // The number at a place: its digits up to a blank or the end.
@@ -75,6 +92,46 @@ pub fn order(text: &[u8], at: usize) -> Order {
     let mut places = [0u8; 10];
     digits(text, at, &mut places);
     Order { places }
+}
+
+// The value of a digit, 0 to 9 or a to f.
+fn digit(character: u8) -> u8
+    ensures { λ r. ⌜ r < 16 ⌝ }
+{
+    match character {
+        b'0'..=b'9' => character - 48,
+        b'a'..=b'f' => character - 87,
+        _ => 0,
+    }
+}
+
+// The bytes at a place, two digits each, up to a blank or the end, one to a byte of `out`: how many there are. The word `-` has none.
+pub fn bytes(text: &[u8], at: usize, out: &mut [u8]) -> Word {
+    let mut count: u16 = 0;
+    let mut i = at;
+    while i < text.len() {
+        let second = i + 1;
+        if text[i] < 48 {
+            return Word {
+                value: count,
+                next: behind(text, i),
+            };
+        }
+        if text.len() <= second {
+            break;
+        }
+        put(
+            out,
+            count as usize,
+            digit(text[i]) * 16 + digit(text[second]),
+        );
+        count = after(count);
+        i = second + 1;
+    }
+    Word {
+        value: count,
+        next: i,
+    }
 }
 
 // The numbers from a place on, one to a cell: how many there are.

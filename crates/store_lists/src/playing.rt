@@ -1,5 +1,4 @@
 // The calls of a list, each made through `history::step` and given the state and the cells as the last one left them.
-use crate::reading::byte;
 use crate::reading::given;
 use crate::reading::state;
 use crate::session::NONE;
@@ -13,6 +12,7 @@ use rule::Made;
 use rule::Node;
 use rule::Said;
 use script::print;
+use script::read::byte;
 use script::read::number;
 use store::Store;
 

@@ -7,6 +7,8 @@ use libc::STDIN_FILENO;
 use rule::Order;
 use script::print;
 use script::read::Word;
+use script::read::behind;
+use script::read::byte;
 use script::read::line_end;
 use script::read::number;
 use script::read::order;
@@ -14,23 +16,6 @@ use store::Store;
 
 // The cells that a list is lent at most: three more than the paper allows.
 const MOST: usize = 3075;
-
-// A number as a byte, 255 where it is above that: as a flag count and as an operator, refused either way.
-pub fn byte(value: u16) -> u8 {
-    if value < 256 { value as u8 } else { 255 }
-}
-
-// The place behind the word at a place and the blank after it.
-fn behind(text: &[u8], at: usize) -> usize {
-    let mut i = at;
-    while i < text.len() {
-        if text[i] == b' ' {
-            return i + 1;
-        }
-        i += 1;
-    }
-    i
-}
 
 // The number at a place; of `@j` the node that call j handed back.
 pub fn given(s: Session, text: &[u8], at: usize) -> Word {

@@ -1,0 +1,393 @@
+//! Files that are read and rules that are written at the edges of what is fit: each refusal on both
+//! sides of its edge, and each ahead of those that come after it.
+
+use crate::file_lines::{hex, say_write, WORKED};
+use crate::files::{are_sound, bytes_of, write, Filed, Given, Record};
+use crate::{numbers, CELLS};
+
+/// Files, and the numbers of cells that they are read into.
+const FILES: &[(&str, &[usize])] = &[
+    // The cells: the settled file, and 5 ahead of whatever a file has.
+    ("0b010001000000000100", &[0, 1, 2, 3, 4, 5, 6, 3069, 3071, 3072, 3073, 3074, 3075]),
+    ("10", &[0, 1, 3, 3072, 3075]),
+    ("-", &[0, 1, 4]),
+    ("ff", &[0, 4, 3075]),
+    // The map: bits 5, 6 and 7, and bits 3 and 4, ahead of the fields that they call for.
+    ("00", &[0]),
+    ("1f", &[0]),
+    ("20", &[0]),
+    ("40", &[0]),
+    ("80", &[0]),
+    ("e0", &[0]),
+    ("18", &[0]),
+    ("3800", &[0]),
+    ("1b010001000000000100", &[3]),
+    ("2b010001000000000100", &[3]),
+    ("8b010001000000000100", &[3]),
+    // The flag count, and what it is ahead of.
+    ("01", &[0]),
+    ("010a", &[0]),
+    ("010b", &[0]),
+    ("01ff", &[0]),
+    ("030b", &[0]),
+    ("050b00", &[0]),
+    ("110a", &[0]),
+    ("110a00", &[0]),
+    // The order: none of its bytes may lack; without bit 0 it has none.
+    ("030a00010203040506070809", &[0]),
+    ("130a09080706050403020100", &[0]),
+    ("030a000102030405060708", &[0]),
+    ("030a0001020304050607080a", &[0]),
+    ("030a00010203040506070808", &[0]),
+    ("0300", &[0]),
+    ("030100", &[0]),
+    ("030101", &[0]),
+    ("0301ff", &[0]),
+    ("03020100", &[0]),
+    ("03020000", &[0]),
+    ("03020102", &[0]),
+    ("0302", &[0]),
+    ("030201", &[0]),
+    ("03030000", &[0]),
+    ("0303000201", &[0]),
+    ("0303000200", &[0]),
+    ("0303020202", &[0]),
+    ("0702000001", &[0]),
+    ("0b020101", &[0]),
+    ("02", &[0]),
+    ("0200", &[0]),
+    ("12", &[0]),
+    ("060141", &[0]),
+    // The label's length, then its bytes.
+    ("04", &[0]),
+    ("0400", &[0]),
+    ("040041", &[0]),
+    ("0401", &[0]),
+    ("04011f", &[0]),
+    ("040120", &[0]),
+    ("04017e", &[0]),
+    ("04017f", &[0]),
+    ("040180", &[0]),
+    ("0401ff", &[0]),
+    ("040100", &[0]),
+    ("04021f", &[0]),
+    ("0402207e", &[0]),
+    ("04021f20", &[0]),
+    ("0402207f", &[0]),
+    ("040320417e", &[0]),
+    ("040320007e", &[0]),
+    ("04014141", &[0]),
+    ("04011f41", &[0]),
+    ("0c011f", &[0]),
+    ("0c0141", &[0]),
+    ("0c00", &[0]),
+    // The record count: 6, then 10, then 11 for the records; its low byte stands first.
+    ("08", &[0, 3]),
+    ("0801", &[0, 3]),
+    ("0800", &[0, 3]),
+    ("080000", &[0, 3]),
+    ("08000041", &[0, 3]),
+    ("080100", &[0, 3]),
+    ("080200", &[3, 6]),
+    ("080001", &[765, 768]),
+    ("08ff03", &[3066, 3069]),
+    ("080004", &[3069, 3072]),
+    ("080104", &[3072]),
+    ("080008", &[3072]),
+    ("08ffff", &[0, 3072]),
+    // Bytes left over, ahead of what the records are.
+    ("0b01000100000000010041", &[0, 3, 4]),
+    ("0b01000100000000000041", &[3]),
+    ("0b010001000000000000", &[3]),
+    ("0b01000100010000010041", &[3]),
+    ("0b010001000100000100", &[3]),
+];
+
+/// Records under an order: diagrams, and such as differ from one in a single point.
+const RECORDS: &[(&str, &[Record])] = &[
+    ("0", &[[0, 0, 1]]),
+    ("0", &[[0, 1, 0]]),
+    ("0", &[[0, 0, 0]]),
+    ("0", &[[0, 1, 1]]),
+    ("", &[[0, 0, 1]]),
+    ("0", &[[1, 0, 1]]),
+    ("01", &[[1, 0, 1]]),
+    ("01", &[[2, 0, 1]]),
+    ("0123456789", &[[9, 1, 0]]),
+    ("0123456789", &[[10, 1, 0]]),
+    ("0", &[[255, 0, 1]]),
+    ("0", &[[256, 0, 1]]),
+    ("0", &[[65535, 0, 1]]),
+    ("0", &[[0, 0, 2]]),
+    ("0", &[[0, 2, 0]]),
+    ("0", &[[0, 1, 3]]),
+    ("0", &[[0, 0, 256]]),
+    ("0", &[[0, 257, 0]]),
+    ("0", &[[0, 0, 65535]]),
+    ("0", &[[0, 65535, 1]]),
+    ("0", &[[0, 65535, 65535]]),
+    // A child that is a record: it asks a flag standing later, and has the smaller number.
+    ("01", &[[1, 0, 1], [0, 0, 2]]),
+    ("01", &[[1, 0, 1], [0, 2, 1]]),
+    ("01", &[[1, 0, 1], [0, 2, 2]]),
+    ("01", &[[1, 0, 1], [0, 3, 2]]),
+    ("01", &[[1, 0, 1], [0, 2, 3]]),
+    ("01", &[[1, 0, 1], [1, 0, 2]]),
+    ("01", &[[0, 0, 1], [1, 0, 2]]),
+    ("01", &[[0, 0, 1], [1, 2, 0]]),
+    ("10", &[[0, 0, 1], [1, 0, 2]]),
+    ("10", &[[0, 0, 1], [1, 2, 0]]),
+    ("10", &[[1, 0, 1], [0, 0, 2]]),
+    ("01", &[[0, 3, 1], [1, 0, 1]]),
+    ("01", &[[1, 0, 1], [0, 0, 4]]),
+    // Equal records, and records with equal children that ask two flags.
+    ("01", &[[1, 0, 1], [1, 1, 0], [0, 2, 3]]),
+    ("01", &[[1, 0, 1], [1, 0, 1], [0, 2, 3]]),
+    ("012", &[[2, 0, 1], [1, 0, 1], [0, 2, 3]]),
+    ("012", &[[2, 0, 1], [1, 0, 2], [2, 0, 1], [0, 3, 4]]),
+    ("012", &[[2, 0, 1], [1, 0, 2], [2, 1, 0], [0, 3, 4]]),
+    // Reach: the first record, one in the middle, all.
+    ("01", &[[1, 0, 1], [0, 0, 1]]),
+    ("012", &[[2, 0, 1], [1, 0, 2], [0, 0, 3]]),
+    ("012", &[[2, 0, 1], [1, 0, 2], [0, 0, 2]]),
+    ("012", &[[2, 0, 1], [0, 2, 1]]),
+    ("012", &[[2, 0, 1], [2, 1, 0], [1, 2, 3], [1, 3, 2], [0, 4, 5]]),
+    ("012", &[[2, 0, 1], [2, 1, 0], [1, 2, 3], [1, 3, 2], [0, 4, 2]]),
+    ("201", &[[1, 0, 1], [0, 2, 1], [2, 2, 3]]),
+    ("210", &[[1, 0, 1], [0, 2, 1], [2, 2, 3]]),
+];
+
+/// What the writer is given: N ORDER USED ROOT BYTES LABEL CELLS CELL CELL ..
+const WRITES: &[&str] = &[
+    // The flag count and the order.
+    "10 00010203040506070809 0 1 12 - 0",
+    "11 00010203040506070809 0 1 13 - 0",
+    "255 - 0 1 2 - 0",
+    "10 000102030405060708 0 1 12 - 0",
+    "10 0001020304050607080a 0 1 12 - 0",
+    "0 - 0 0 2 - 0",
+    "0 00000000000000000000 0 1 2 - 0",
+    "0 01 0 0 2 - 0",
+    "0 00000000000000000001 0 0 2 - 0",
+    "1 - 0 0 3 - 0",
+    "1 01 0 0 3 - 0",
+    "1 0001 0 0 3 - 0",
+    "2 0100 0 0 4 - 0",
+    "2 01 0 0 4 - 0",
+    "2 0101 0 0 4 - 0",
+    "2 0002 0 0 4 - 0",
+    "2 ff00 0 0 4 - 0",
+    "3 020001 0 1 5 - 0",
+    "3 02000100000000000009 0 1 5 - 0",
+    // The cells.
+    "0 - 0 1 2 - 1",
+    "0 - 0 1 2 - 3",
+    "0 - 0 1 2 - 3072",
+    "0 - 0 1 2 - 3073",
+    "0 - 0 1 2 - 3075",
+    "1 00 1 2 10 - 2 0 0",
+    "1 00 1 2 10 - 3 0 0 1",
+    "1 00 1 2 10 - 4 0 0 1",
+    "1 00 1 2 10 - 6 0 0 1",
+    "1 00 1 2 10 - 3072 0 0 1",
+    "1 00 1 2 10 - 3074 0 0 1",
+    "1 00 1 2 10 - 3075 0 0 1",
+    // More used than the cells hold, and cells past the used records.
+    "1 00 1 2 10 - 0",
+    "1 00 2 3 15 - 3 0 0 1",
+    "1 00 2 3 15 - 6 0 0 1",
+    "1 00 65535 2 10 - 3 0 0 1",
+    "1 00 65535 65535 10 - 3072 0 0 1",
+    "1 00 0 0 3 - 3 0 0 1",
+    "1 00 0 0 3 - 3 0 0 0",
+    "1 00 1 2 10 - 6 0 0 1 1",
+    "1 00 1 2 10 - 6 0 0 1 0 1",
+    "1 00 1 2 10 - 6 0 0 1 0 0 1",
+    "1 00 1 2 10 - 6 0 0 1 0 1 0",
+    "2 0001 1 2 11 - 6 1 0 1 0 0 2",
+    "2 0001 2 3 16 - 6 1 0 1 0 0 2",
+    "2 0001 2 3 16 - 9 1 0 1 0 0 2 0 0 65535",
+    // The root: every record is reached, or it is no node.
+    "0 - 0 2 2 - 0",
+    "0 - 0 65535 2 - 0",
+    "1 00 1 0 10 - 3 0 0 1",
+    "1 00 1 1 10 - 3 0 0 1",
+    "1 00 1 3 10 - 3 0 0 1",
+    "1 00 1 65535 10 - 3 0 0 1",
+    "2 0001 2 2 16 - 6 1 0 1 0 0 2",
+    "2 0001 2 4 16 - 6 1 0 1 0 0 2",
+    "2 0001 2 3 16 - 6 1 0 1 0 0 1",
+    "2 0001 2 4 16 - 6 1 0 1 0 0 1",
+    // The label's bytes.
+    "0 - 0 0 4 1f 0",
+    "0 - 0 0 4 20 0",
+    "0 - 0 0 4 7e 0",
+    "0 - 0 0 4 7f 0",
+    "0 - 0 0 4 00 0",
+    "0 - 0 0 4 80 0",
+    "0 - 0 0 4 ff 0",
+    "0 - 0 1 6 1f417e 0",
+    "0 - 0 1 6 201f7e 0",
+    "0 - 0 1 6 20417f 0",
+    "0 - 0 1 6 20417e 0",
+    // The lent bytes: one too few, and some past the file.
+    "0 - 0 0 0 - 0",
+    "0 - 0 0 1 - 0",
+    "0 - 0 0 3 - 0",
+    "0 - 0 1 5 20417e 0",
+    "0 - 0 1 9 20417e 0",
+    "1 00 1 2 9 - 3 0 0 1",
+    "1 00 1 2 0 - 3 0 0 1",
+    "1 00 1 2 15 - 3 0 0 1",
+    "1 00 1 2 11 41 3 0 0 1",
+    "1 00 1 2 12 41 3 0 0 1",
+];
+
+/// What may be wrong with a file of three flags that has a label of two bytes and records, or with
+/// its cells, which hold the records exactly. Each stands where the reader meets it.
+const FILE_FAULTS: &[fn(&mut Vec<u8>, &mut usize)] = &[
+    |_, cells| *cells += 1,
+    |file, _| file[0] |= 0x20,
+    |file, _| file[0] |= 0x10,
+    |file, _| file[1] = 11,
+    |file, _| file[2] = file[3],
+    |file, _| file[5] = 0,
+    |file, _| file[6] = 0x1F,
+    |file, _| file[8] = 0,
+    |file, cells| file[8] = (*cells / 3 + 1) as u8,
+    |file, _| file[11] = file[13], // low is high, both below 256
+    |file, _| file.push(0),
+    |file, _| file.truncate(file.len() - 1),
+];
+
+/// What may be wrong with a write of the same rule into as many bytes as its file has.
+const WRITE_FAULTS: &[fn(&mut Given, &mut usize)] = &[
+    |given, _| given.n = 11,
+    |given, _| given.order[0] = given.order[1],
+    |given, _| given.cells.push(0),
+    |given, _| given.cells[1] = given.cells[2],
+    |given, _| given.root -= 1,
+    |given, _| given.root += 2,
+    |given, _| given.label[0] = 0x7F,
+    |given, _| given.label.resize(256, 0x41),
+    |_, bytes| *bytes -= 1,
+];
+
+/// A file, and the numbers of cells that it is read into.
+pub fn reads(file: &[u8], cells: &[usize]) -> Vec<String> {
+    let each = cells.iter().map(|cells| format!("r {cells}"));
+    [format!("f {}", hex(file))].into_iter().chain(each).collect()
+}
+
+/// What the writer is given for a rule in cells that hold its records exactly.
+pub fn given(filed: &Filed) -> Given {
+    let Filed { order, label, records, root } = filed;
+    let mut places = order.clone();
+    places.resize(10, 0);
+    let (n, used, cells, label) = (order.len(), records.len(), records.concat(), label.clone());
+    Given { n, order: places, cells, used, root: *root, label }
+}
+
+/// Every map of bits 0 to 4, each field that it calls for being fit for one flag.
+fn maps() -> Vec<String> {
+    let filed = Filed { order: vec![0], label: b"A".to_vec(), records: vec![[0, 1, 0]], root: 2 };
+    (0..32).flat_map(|map| reads(&bytes_of(map, &filed), &[3])).collect()
+}
+
+/// Labels of up to 256 bytes: in a file of 255, one fewer and one more than its length says.
+fn labels() -> Vec<String> {
+    let label = |length: usize| [vec![0x20; length - 1], vec![0x7E]].concat();
+    let file = |length: usize| [&[0x04, 255], &label(length)[..]].concat();
+    let mut lines: Vec<String> =
+        [254, 255, 256].iter().flat_map(|&l| reads(&file(l), &[0])).collect();
+    lines.extend(reads(&[&file(254)[..], &[0x7F]].concat(), &[0]));
+    for (length, bytes) in [(255, 258), (255, 257), (256, 300), (256, 0)] {
+        lines.push(format!("w 0 - 0 0 {bytes} {} 0", hex(&label(length))));
+        lines.push("r 0".to_string());
+    }
+    lines
+}
+
+/// Records in a file and given to the writer. A file has one byte for a flag.
+fn records() -> Vec<String> {
+    let mut lines = Vec::new();
+    for (order, records) in RECORDS {
+        let root = records.len() + 1;
+        let filed = Filed { order: numbers(order), label: vec![], records: records.to_vec(), root };
+        if records.iter().all(|record| record[0] < 256) {
+            lines.extend(reads(&bytes_of(0b1011, &filed), &[3 * records.len()]));
+        }
+        lines.push(say_write(&given(&filed), 64));
+    }
+    lines
+}
+
+/// As many records as all the cells hold, sound but not all reached: those that ask a flag have all
+/// pairs of the nodes that ask later ones for children. Then one record, and a last cell that is
+/// not 0.
+fn most() -> Vec<String> {
+    let order: Vec<usize> = (0..10).collect();
+    let mut records: Vec<Record> = Vec::new();
+    for flag in [9, 8, 7, 6] {
+        let nodes = records.len() + 2;
+        let pairs = (0..nodes * nodes).map(|pair| [flag, pair / nodes, pair % nodes]);
+        records.extend(pairs.filter(|record| record[1] != record[2]));
+        records.truncate(CELLS / 3);
+    }
+    assert!(are_sound(&records, &order) && records.len() == CELLS / 3);
+    let filed = Filed { order, label: vec![], records, root: CELLS / 3 + 1 };
+    let mut lines = reads(&bytes_of(0b1001, &filed), &[CELLS - 3, CELLS]);
+    let mut given = given(&filed);
+    lines.push(say_write(&given, CELLS));
+    given.cells[3..CELLS - 1].fill(0);
+    (given.used, given.root) = (1, 2);
+    lines.push(say_write(&given, CELLS));
+    lines
+}
+
+/// Each one of so many faults, and each two.
+fn pairs(count: usize) -> Vec<Vec<usize>> {
+    let with = |i: usize| (i + 1..count).map(move |j| vec![i, j]);
+    (0..count).flat_map(|i| [vec![i]].into_iter().chain(with(i))).collect()
+}
+
+/// The faults of a file, each alone also with the file cut at each length.
+fn file_faults(filed: &Filed) -> Vec<String> {
+    let mut lines = Vec::new();
+    for pair in pairs(FILE_FAULTS.len()) {
+        let (mut file, mut cells) = (bytes_of(0b1111, filed), 3 * filed.records.len());
+        pair.iter().for_each(|&at| FILE_FAULTS[at](&mut file, &mut cells));
+        lines.extend(reads(&file, &[cells]));
+        lines.extend(Some(format!("c {cells}")).filter(|_| pair.len() == 1));
+    }
+    lines
+}
+
+fn write_faults(filed: &Filed) -> Vec<String> {
+    let say = |pair: Vec<usize>| {
+        let mut given = given(filed);
+        let mut bytes = bytes_of(0b1111, filed).len();
+        assert_eq!(write(&given, bytes).map(|file| file.len()), Ok(bytes));
+        pair.iter().for_each(|&at| WRITE_FAULTS[at](&mut given, &mut bytes));
+        say_write(&given, bytes)
+    };
+    pairs(WRITE_FAULTS.len()).into_iter().map(say).collect()
+}
+
+/// All of these; the faults are those of a rule of three flags with a label of two bytes.
+pub fn edges(filed: &Filed) -> Vec<String> {
+    let worked = WORKED.iter().flat_map(|(input, _)| input.split(';').map(str::to_string));
+    let mut lines: Vec<String> = worked.collect();
+    lines.extend(maps());
+    for (file, cells) in FILES {
+        lines.push(format!("f {file}"));
+        lines.extend(cells.iter().map(|cells| format!("r {cells}")));
+    }
+    lines.extend(labels());
+    lines.extend(records());
+    lines.extend(WRITES.iter().map(|line| format!("w {line}")));
+    lines.extend(file_faults(filed));
+    lines.extend(write_faults(filed));
+    lines.extend(most());
+    lines
+}
