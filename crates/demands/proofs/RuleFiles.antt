@@ -23,6 +23,7 @@ use Rattle.files.specs.Run.{recordIn}
 use Rattle.files.proofs.Aside.{reading-unfit}
 use Rattle.files.proofs.Laid.{length-below, laid-length}
 use Rattle.demands.proofs.Stands.{accepted-reply, passed, none-applies, passed-diagram, diagram-passed}
+use Rattle.demands.proofs.Reader.{read-diagram}
 use Rattle.demands.proofs.Canonical.{root-last}
 use Rattle.demands.proofs.FileBytes.{laid-at, laid-same}
 use Rattle.demands.proofs.SameCells.{records-same, diagram-same}
@@ -153,6 +154,7 @@ module _ {n used root : ℕ} {order c label file : List ℕ} (x : Written n used
 pub rule-files : RuleFiles
 rule-files =
     record {
+      is-diagram = read-diagram;
       read-back = λ n used root order c label file cells d r ten w lent held b.
           let x = written ten w in
           (values-back x b lent held, label-back x b lent held, cells-back x b lent held);

@@ -174,15 +174,18 @@ abbrev pub labelRead : List ℕ → List ℕ → List ℕ
 labelRead cells file = bytesOf (labelOf (reading cells file)) file
 
 pub record RuleFiles : Type 0 where
-  -- what the writer writes the reader reads to the same n, order, label, records and root, into any cells that hold the records, and cells past them are 0
+  -- what the reader takes is up to ten flags in a fit order, and sound cells in which every record is reached (and stands for one table: `Demand2.read`)
+  pub is-diagram : (n nodes root : ℕ) (order file cells d : List ℕ) (r : Reply) → Reads file cells r d → Gives r (n ∷ nodes ∷ root ∷ order)
+      → (n ≤ 10) × (fitOrder n order ≡ true) × (diagram n order d nodes root ≡ true)
+  -- what the writer writes the reader reads to the same n, order, label, records and root, into any cells that hold the records; cells past them are 0
   pub read-back : (n used root : ℕ) (order c label file cells d : List ℕ) (r : Reply) → length order ≡ places → WrittenAs n used root order c label file
       → fitCells cells ≡ true → used ≤ room cells → Reads file cells r d
       → Gives r (n ∷ used ∷ root ∷ order) × (labelRead cells file ≡ label) × (d ≡ laidIn cells (recordsIn c used))
-  -- into as many cells as the writer's the same cells
+  -- into as many cells as the writer's: the same cells
   pub same-cells : (n used root : ℕ) (order c label file cells d : List ℕ) (r : Reply) → length order ≡ places → WrittenAs n used root order c label file
       → length cells ≡ length c → Reads file cells r d
       → Gives r (n ∷ used ∷ root ∷ order) × (labelRead cells file ≡ label) × (d ≡ c)
-  -- and under 10 it refuses the file only where the cells don't hold the records
+  -- it is refused under 10 just where the cells don't hold the records
   pub no-room : (n used root : ℕ) (order c label file cells d : List ℕ) (r : Reply) → length order ≡ places → WrittenAs n used root order c label file
       → fitCells cells ≡ true → Reads file cells r d → (numberOf r ≡ 10) ↔ (room cells < used)
   -- what the reader took from a written file, handed to the writer with bytes enough, is written to the same bytes
