@@ -6,6 +6,10 @@ pub mod Needs
 pub mod Suffices
 pub mod Same
 pub mod Reader
+pub mod FileBytes
+pub mod SameCells
+pub mod ReadBack
+pub mod RuleFiles
 pub mod NoRoom
 pub mod Demand2
 pub mod Beside

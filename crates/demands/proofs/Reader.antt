@@ -104,21 +104,25 @@ module _ (c file : List ℕ) where
 
 -- ---- an accepted file
 
-pub read : (n nodes root : ℕ) (order file c d : List ℕ) (r : Reply) → Reads file c r d → Gives r (n ∷ nodes ∷ root ∷ order)
-    → StandsFor n order (tableOf n d root) d nodes root
-unfolding fitCells
-read n nodes root order file c d r b g =
-    outcome (reading c file) (reading-right c file) (accepted-reply (readNumber (reading c file)) (b .answer) g) (b .cells)
-  where
-    outcome : (o : Outcome) → Right (Whole c file) o → (readNumber o ≡ 0) × (readValues file o ≡ n ∷ nodes ∷ root ∷ order) → d ≡ readCells c o
-        → StandsFor n order (tableOf n d root) d nodes root
-    outcome (stop k) h (z, v) e = absurd (omega arith)
-    outcome (go x) (f, q) (z, v) e =
-        let lent : length (laidIn c (x .records)) ≡ length c =
-        length-take-le (length c) (recordCells (x .records) ++ replicate (length c) 0) (simp (length-append, length-replicate) (omega arith)) in
-        let n-is : n ≡ x .n = cc in
-        let nodes-is : nodes ≡ count x = cc in
-        let root-is : root ≡ rootRead (getD file 0 0) (count x) = cc in
-        let order-is : order ≡ x .places = cc in
-        rw (n-is, nodes-is, root-is, order-is, e)
-        (stands (x .n) (x .places) (laidIn c (x .records)) (count x) _ (f .few) (f .order-fits) (rw lent (f .lent)) q)
+module _ (n nodes root : ℕ) (order file c d : List ℕ) (r : Reply) (b : Reads file c r d) (g : Gives r (n ∷ nodes ∷ root ∷ order)) where
+  read-fit : (n ≤ 10) × (fitOrder n order ≡ true) × (fitCells d ≡ true) × (diagram n order d nodes root ≡ true)
+  unfolding fitCells
+  read-fit = outcome (reading c file) (reading-right c file) (accepted-reply (readNumber (reading c file)) (b .answer) g) (b .cells)
+    where
+      outcome : (o : Outcome) → Right (Whole c file) o → (readNumber o ≡ 0) × (readValues file o ≡ n ∷ nodes ∷ root ∷ order) → d ≡ readCells c o
+          → (n ≤ 10) × (fitOrder n order ≡ true) × (fitCells d ≡ true) × (diagram n order d nodes root ≡ true)
+      outcome (stop k) h (z, v) e = absurd (omega arith)
+      outcome (go x) (f, q) (z, v) e =
+          let lent : length (laidIn c (x .records)) ≡ length c =
+          length-take-le (length c) (recordCells (x .records) ++ replicate (length c) 0) (simp (length-append, length-replicate) (omega arith)) in
+          let n-is : n ≡ x .n = cc in
+          let nodes-is : nodes ≡ count x = cc in
+          let root-is : root ≡ rootRead (getD file 0 0) (count x) = cc in
+          let order-is : order ≡ x .places = cc in
+          rw (n-is, nodes-is, root-is, order-is, e) (f .few, f .order-fits, rw lent (f .lent), q)
+
+  pub read-diagram : (n ≤ 10) × (fitOrder n order ≡ true) × (diagram n order d nodes root ≡ true)
+  read-diagram = let (few, o, f, q) = read-fit in (few, o, q)
+
+  pub read : StandsFor n order (tableOf n d root) d nodes root
+  read = let (few, o, f, q) = read-fit in stands n order d nodes root few o f q

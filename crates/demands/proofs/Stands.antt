@@ -5,8 +5,8 @@ use mathlib.Core.Bool.{Bool, true, false, not, _&&_, _||_}
 use mathlib.Core.List.{List, [], _∷_}
 use Prim.Native.Nat.{ℕ, zero, suc, _+_, _^_, _≤_}
 use native.Mathlib.Omega.{arith}
-use borrow.Author.Tests.{ltb-false, le-ltb, le-leb, eq-eqb, not-false}
-use lib.Dec.{ltb}
+use borrow.Author.Tests.{ltb-false, le-ltb, leb-true, le-leb, eq-eqb, not-false}
+use lib.Dec.{leb, ltb}
 use lib.ListN.{length}
 use Rattle.rule.specs.Table.{fitLength}
 use Rattle.rule.specs.Level.{size}
@@ -40,6 +40,10 @@ pub passed : (rows : List Row) → numbered rows ≡ true → refusal rows ≡ 0
 passed [] h e = tt
 passed ((b, zero) ∷ rows) h e = let z : _≡_ {A = ℕ} 0 1 = cc in absurd (omega arith)
 passed ((b, suc k) ∷ rows) h e = let (p, q) = row-passed b k rows e in (p, passed rows (and-split (ltb 0 (suc k)) (numbered rows) h .1) q)
+
+pub none-applies : (rows : List Row) → Passed rows → refusal rows ≡ 0
+none-applies [] p = refl
+none-applies (row ∷ rows) (e, p) = rw e (none-applies rows p)
 
 module _ (n : ℕ) (order c : List ℕ) (used root : ℕ) (few : n ≤ 10) (o : fitOrder n order ≡ true) (f : fitCells c ≡ true)
     (d : diagram n order c used root ≡ true) where
@@ -107,13 +111,28 @@ neither true true e = (refl, refl)
 neither true false e = let z : _≡_ {A = ℕ} 0 1 = cc in absurd (omega arith)
 neither false a e = let z : _≡_ {A = ℕ} 0 1 = cc in absurd (omega arith)
 
--- so does a diagram that check's rows let pass
-passed-stands : (n used root : ℕ) (order c : List ℕ) → Passed (checkRows n order c used root) → StandsFor n order (tableOf n c root) c used root
+-- what check's rows let pass is a diagram
+pub passed-diagram : (n used root : ℕ) (order c : List ℕ) → Passed (checkRows n order c used root) → diagram n order c used root ≡ true
 unfolding diagram
-passed-stands n used root order c (few, (o, (f, (q, (m, _))))) =
+passed-diagram n used root order c (few, (o, (f, (q, (m, _))))) =
     let low = le-leb root (used + 1) (ltb-false (used + 1) root m) in
     let (s, a) = neither (sound n order c used) (allReached c used root) (rw low at q) in
-    stands n order c used root (ltb-false 10 n few) (not-false _ o) (not-false _ f) (and-join s (and-join low a))
+    and-join s (and-join low a)
+
+-- and they let every diagram pass
+pub diagram-passed : (n used root : ℕ) (order c : List ℕ) → n ≤ 10 → fitOrder n order ≡ true → fitCells c ≡ true → diagram n order c used root ≡ true
+    → Passed (checkRows n order c used root)
+unfolding diagram
+diagram-passed n used root order c few o f d =
+    let (s, e) = and-split (sound n order c used) _ d in
+    let (low, a) = and-split (leb root (used + 1)) _ e in
+    let records : (not (sound n order c used) || (leb root (used + 1) && not (allReached c used root))) ≡ false = rw (s, low, a) in
+    (le-ltb 10 n few, (ap not o, (ap not f, (records, (le-ltb (used + 1) root (leb-true root (used + 1) low), tt)))))
+
+-- so it stands for its table
+passed-stands : (n used root : ℕ) (order c : List ℕ) → Passed (checkRows n order c used root) → StandsFor n order (tableOf n c root) c used root
+passed-stands n used root order c (few, (o, (f, p))) =
+    stands n order c used root (ltb-false 10 n few) (not-false _ o) (not-false _ f) (passed-diagram n used root order c (few, (o, (f, p))))
 
 pub checked : (n nodes used root : ℕ) (order c : List ℕ) (r : Reply) → length order ≡ places → Check n order c used root r → Gives r (nodes ∷ [])
     → (nodes ≡ used) × StandsFor n order (tableOf n c root) c nodes root

@@ -1,5 +1,6 @@
--- Demands 2 and 3, each as one statement over the outcomes of Calls.antt and Files.antt. (Demand 1 is the contracts themselves: no call has a condition,
--- each gives its number and every lent buffer, and the check proves that it reads, writes and ends within what it was given.)
+-- Demands 2 and 3, each as one statement over the outcomes of Calls.antt and Files.antt, and a third: what the writer writes the reader reads. (Demand 1 is
+-- the contracts themselves: no call has a condition, each gives its number and every lent buffer, and the check proves that it reads, writes and ends within
+-- what it was given.)
 -- Assumes nothing.
 use mathlib.Core.Path.{_≡_}
 use mathlib.Core.Logic.{_≢_, _↔_}
@@ -7,17 +8,17 @@ use mathlib.Core.Bool.{true}
 use mathlib.Core.List.{List, [], _∷_, List·Memᴰ}
 use mathlib.Core.Option.{some}
 use Prim.Native.Nat.{ℕ, _+_, _^_, _≤_, _<_}
-use lib.ListN.{length, getD}
+use lib.ListN.{length, getD, take}
 use Rattle.rule.specs.Table.{fitLength, fitRows}
 use Rattle.rule.specs.Level.{levelCount, size}
 use Rattle.rule.specs.Order.{places, flags, fitOrder, askedBefore}
-use Rattle.rule.specs.Cells.{room, sound, flagAt, lowAt, highAt}
+use Rattle.rule.specs.Cells.{fitCells, room, sound, flagAt, lowAt, highAt}
 use Rattle.rule.specs.Diagram.{tableOf, diagram, asking}
 use Rattle.rule.specs.Reduced.{DrawnAs}
 use Rattle.rule.specs.Results.{Making, madeIn, needed}
 use Rattle.rule.specs.Reply.{Reply, accepted, numberOf, Accepted}
 use Rattle.rule.specs.Calls.{State, Build, Check, Tabulates, Tabulate, Walk, Make, Pack}
-use Rattle.rule.specs.Files.{Reads, Writes}
+use Rattle.rule.specs.Files.{bytesOf, reading, laidIn, labelOf, Reads, recordsIn, Writes}
 use Rattle.rule.specs.History.{Call, Calls, Opens, BeginsOpen, Book, inBook, enter, bookOf}
 
 -- n flags in a fit order, and a fit table of theirs
@@ -156,3 +157,39 @@ pub record AfterList (s : State) (c : List ℕ) (b : Book) (xs : List Call) : Ty
 -- Demand 3: one claim about any list of calls that begins with an accepted open, from any state, any cells and any book
 abbrev pub Demand3 : Type 0
 Demand3 = (first s : State) (cells c : List ℕ) (b : Book) (xs : List Call) → Calls first cells xs s c → BeginsOpen xs → AfterList s c b xs
+
+-- ---- rule files
+
+-- a rule's file: an accepted write left these bytes, as many as it handed back
+pub record WrittenAs (n used root : ℕ) (order c label file : List ℕ) : Type 0 where
+  pub bytes : List ℕ
+  pub after : List ℕ
+  pub answer : Reply
+  pub writes : Writes n order c used root label bytes answer after
+  pub handed-back : Gives answer (length file ∷ [])
+  pub file-is : take (length file) after ≡ file
+
+-- the label of a file that is read into these cells: the bytes that `Label` hands out
+abbrev pub labelRead : List ℕ → List ℕ → List ℕ
+labelRead cells file = bytesOf (labelOf (reading cells file)) file
+
+pub record RuleFiles : Type 0 where
+  -- what the reader takes is up to ten flags in a fit order, and sound cells in which every record is reached (and stands for one table: `Demand2.read`)
+  pub is-diagram : (n nodes root : ℕ) (order file cells d : List ℕ) (r : Reply) → Reads file cells r d → Gives r (n ∷ nodes ∷ root ∷ order)
+      → (n ≤ 10) × (fitOrder n order ≡ true) × (diagram n order d nodes root ≡ true)
+  -- what the writer writes the reader reads to the same n, order, label, records and root, into any cells that hold the records; cells past them are 0
+  pub read-back : (n used root : ℕ) (order c label file cells d : List ℕ) (r : Reply) → length order ≡ places → WrittenAs n used root order c label file
+      → fitCells cells ≡ true → used ≤ room cells → Reads file cells r d
+      → Gives r (n ∷ used ∷ root ∷ order) × (labelRead cells file ≡ label) × (d ≡ laidIn cells (recordsIn c used))
+  -- into as many cells as the writer's: the same cells
+  pub same-cells : (n used root : ℕ) (order c label file cells d : List ℕ) (r : Reply) → length order ≡ places → WrittenAs n used root order c label file
+      → length cells ≡ length c → Reads file cells r d
+      → Gives r (n ∷ used ∷ root ∷ order) × (labelRead cells file ≡ label) × (d ≡ c)
+  -- it is refused under 10 just where the cells don't hold the records
+  pub no-room : (n used root : ℕ) (order c label file cells d : List ℕ) (r : Reply) → length order ≡ places → WrittenAs n used root order c label file
+      → fitCells cells ≡ true → Reads file cells r d → (numberOf r ≡ 10) ↔ (room cells < used)
+  -- what the reader took from a written file, handed to the writer with bytes enough, is written to the same bytes
+  pub again : (n used root n′ used′ root′ : ℕ) (order c label file cells d order′ bytes after : List ℕ) (r q : Reply) → length order ≡ places
+      → WrittenAs n used root order c label file → Reads file cells r d → Gives r (n′ ∷ used′ ∷ root′ ∷ order′)
+      → length file ≤ length bytes → Writes n′ order′ d used′ root′ (labelRead cells file) bytes q after
+      → Gives q (length file ∷ []) × (take (length file) after ≡ file)
