@@ -21,7 +21,7 @@ DIAGRAM_CALLS(old_)
 uint64_t engine_join(uint8_t n, const uint8_t *order, uint16_t *cells, size_t length, uint16_t used, uint8_t code, uint16_t first,
                      uint16_t second) __attribute__((weak));
 
-// Pack: the order goes into ten lent bytes.
+// Pack: the order goes into ten lent bytes, which stay as they are where it is refused.
 uint64_t engine_pack(uint8_t n, const uint8_t *table, size_t rows, uint8_t *order, uint16_t *cells, size_t length, uint16_t *workspace,
                      size_t space);
 

@@ -6,10 +6,14 @@ use rule::Drawn;
 use rule::Node;
 use rule::Order;
 use rule::Said;
+ghost use Rattle.rule.specs.Calls.{Build, Check, Walks, Tabulates};
+ghost use Rattle.exports.specs.Word.{Codes};
 
 // Build: the node count and the root.
 #[no_mangle]
-pub extern "C" fn engine_build(n: u8, table: &[u8], places: &[u8; 10], cells: &mut [u16]) -> u64 {
+pub extern "C" fn engine_build(n: u8, table: &[u8], places: &[u8; 10], cells: &mut [u16]) -> u64
+    ensures { λ r. ⌜ Codes (λ a. Build n (now (table .entry)) (now (places .entry)) (now (cells .entry)) a (now (cells .exit))) r ⌝ }
+{
     match building::build(n, table, Order { places: *places }, cells) {
         Drawn::Diagram { nodes, root } => answer(0, nodes, root.number),
         Drawn::Refused(k) => answer(k, 0, 0),
@@ -18,13 +22,9 @@ pub extern "C" fn engine_build(n: u8, table: &[u8], places: &[u8; 10], cells: &m
 
 // Check: the node count.
 #[no_mangle]
-pub extern "C" fn engine_check(
-    n: u8,
-    places: &[u8; 10],
-    cells: &[u16],
-    used: u16,
-    root: u16,
-) -> u64 {
+pub extern "C" fn engine_check(n: u8, places: &[u8; 10], cells: &[u16], used: u16, root: u16) -> u64
+    ensures { λ r. ⌜ Codes (Check n (now (places .entry)) (now (cells .entry)) used root) r ⌝ }
+{
     match checking::check(
         n,
         Order { places: *places },
@@ -46,7 +46,9 @@ pub extern "C" fn engine_walk(
     used: u16,
     node: u16,
     row: u16,
-) -> u64 {
+) -> u64
+    ensures { λ r. ⌜ Codes (Walks n (now (places .entry)) (now (cells .entry)) used node row) r ⌝ }
+{
     match walking::walk(
         n,
         Order { places: *places },
@@ -69,7 +71,9 @@ pub extern "C" fn engine_tabulate(
     used: u16,
     node: u16,
     bytes: &mut [u8],
-) -> u64 {
+) -> u64
+    ensures { λ r. ⌜ Codes (λ a. Tabulates n (now (places .entry)) (now (cells .entry)) used node (now (bytes .entry)) a (now (bytes .exit))) r ⌝ }
+{
     match walking::tabulate(
         n,
         Order { places: *places },

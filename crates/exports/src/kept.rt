@@ -5,9 +5,16 @@ use rule::Node;
 use rule::Order;
 use store::Store;
 use store::Stored;
+ghost use mathlib.Core.Path.{_≡_};
+ghost use Rattle.rule.specs.Reply.{numberOf};
+ghost use Rattle.rule.specs.Answers.{madeReply};
+ghost use Rattle.rule.specs.Calls.{Join};
+ghost use Rattle.exports.specs.Word.{word, valueAt, CodesState};
 
 // What a call that makes a rule hands back.
-fn stored(made: Stored) -> u64 {
+fn stored(made: Stored) -> u64
+    ensures { λ r. ⌜ r ≡ word (numberOf (madeReply (made .answer))) (made .store .used) (valueAt (madeReply (made .answer)) 0) ⌝ }
+{
     let used = made.store.used;
     let said = made.answer;
     match said {
@@ -26,7 +33,9 @@ pub extern "C" fn engine_join(
     code: u8,
     first: u16,
     second: u16,
-) -> u64 {
+) -> u64
+    ensures { λ r. ⌜ CodesState (λ a s. Join (record { n = n; places = now (places .entry); used = used }) (now (cells .entry)) code first second a s (now (cells .exit))) r ⌝ }
+{
     let order = Order { places: *places };
     let store = Store { n, order, used };
     stored(store.join(cells, code, Node { number: first }, Node { number: second }))

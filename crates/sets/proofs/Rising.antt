@@ -1,4 +1,5 @@
--- The one test that antt computes over the list: 1,024 sets below 1024, that rise by size and then by number.
+-- The one test that antt computes, over the definition's list: 1,024 sets below 1024, that rise by size and then by number. (That the code's table is this list
+-- is a second computation, in the proof of `set_at`.)
 -- Assumes nothing.
 use mathlib.Core.Path.{_≡_}
 use mathlib.Core.Bool.{Bool, true, false, _&&_}

@@ -1,4 +1,4 @@
--- The list is in sequence: from the computed test, and from what the definition says of its members.
+-- The list is in sequence: each set occurs because of the definition; that it does so once, that sizes rise and that subsets stand first is from the computed test.
 -- Assumes nothing.
 use mathlib.Core.Path.{_≡_, refl, sym, ap, subst}
 use mathlib.Core.Logic.{_≢_, ⊎-elim}

@@ -1,4 +1,4 @@
--- `sets::set_at` meets its contract: the table is the list of the definition, which antt computes.
+-- `sets::set_at` meets its contract: the code's table is the definition's list, by a computation of its own beside the test of Rising.antt.
 -- Assumes nothing.
 use mathlib.Core.Path.{refl}
 use borrow.Author.Needs.{needs}
