@@ -13,9 +13,10 @@ use Rattle.rule.specs.Order.{places, flags, inPlaces, fitOrder}
 use Rattle.rule.specs.Cells.{width, room, flagAt, lowAt, highAt}
 use Rattle.rule.specs.Files.{FileRecord, two, twoAt, inBytes, recordAt, recordCells, laidIn, recordsIn, recordBytes}
 use Rattle.rule.proofs.Zeros.{zeros, zero-at}
+use Rattle.theory.proofs.Bits.{length-below}
 use Rattle.theory.proofs.Orders.{fit-order-rest, in-places-is}
-use Rattle.files.specs.Run.{recordIn}
-use Rattle.files.proofs.Laid.{length-below, laid-is, laid-length}
+use Rattle.writing.specs.Run.{recordIn}
+use Rattle.reading.proofs.Laid.{laid-is, laid-length}
 
 -- ---- lists that are 0 from a place on
 

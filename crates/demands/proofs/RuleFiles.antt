@@ -17,11 +17,12 @@ use Rattle.rule.specs.Refusals.{refusal}
 use Rattle.rule.specs.Reply.{Reply, numberOf, leaves}
 use Rattle.rule.specs.Files.{longestLabel, go, rootRead, laidIn, reading, readNumber, Reads, recordsIn, mapByte, fileOf, writeRows, Writes}
 use Rattle.rule.specs.Demands.{Gives, WrittenAs, labelRead, RuleFiles}
+use Rattle.theory.proofs.Bits.{length-below}
 use Rattle.theory.specs.Sound.{Sound}
 use Rattle.theory.proofs.Reach.{diagram-view}
-use Rattle.files.specs.Run.{recordIn}
-use Rattle.files.proofs.Aside.{reading-unfit}
-use Rattle.files.proofs.Laid.{length-below, laid-length}
+use Rattle.writing.specs.Run.{recordIn}
+use Rattle.reading.proofs.Aside.{reading-unfit}
+use Rattle.reading.proofs.Laid.{laid-length}
 use Rattle.demands.proofs.Stands.{accepted-reply, passed, none-applies, passed-diagram, diagram-passed}
 use Rattle.demands.proofs.Reader.{read-diagram}
 use Rattle.demands.proofs.Canonical.{root-last}

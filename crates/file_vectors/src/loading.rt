@@ -77,8 +77,8 @@ fn accepted(n: u8, order: Order, count: u16, root: Node, label: &[u8], cells: &[
 
 // The line for a file that is read into lent cells.
 fn read(file: &[u8], cells: &mut [u16]) {
-    let found = files::read(file, cells);
-    let label = files::label(file, cells);
+    let found = reading::read(file, cells);
+    let label = reading::label(file, cells);
     let order = found.order;
     let answer = found.answer;
     match answer {

@@ -13,10 +13,10 @@
 // FILE, ORDER and LABEL are two digits to a byte, 0 to 9 and a to f, or `-` for none; what is not written of an order's ten places is 0.
 // tests/second/file_lines.rs says what is printed, and the second program what it must be.
 mod changing;
+mod input;
 mod loading;
-mod reading;
 mod saving;
 
 fn main() {
-    reading::run();
+    input::run();
 }

@@ -82,7 +82,7 @@ fn refused(k: u8, bytes: &[u8]) {
 // The line for a rule that is written: the file's length, 0 where it is refused.
 fn write(of: Asked, cells: &[u16], label: &[u8], bytes: &mut [u8]) -> usize {
     fill(bytes);
-    let answer = files::write(of.n, of.order, cells, of.used, of.root, label, bytes);
+    let answer = writing::write(of.n, of.order, cells, of.used, of.root, label, bytes);
     match answer {
         Written::Bytes(size) => {
             written(size, bytes);

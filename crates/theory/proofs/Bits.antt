@@ -2,11 +2,12 @@
 -- Assumes nothing.
 use mathlib.Core.Path.{_≡_, refl, sym, ap, _∙_}
 use mathlib.Core.Logic.{_≢_, inl, inr}
-use mathlib.Core.List.{map}
+use mathlib.Core.List.{[], _∷_, _++_, map}
 use Prim.Native.Nat.{ℕ, zero, suc, _+_, _*_, _/_, _%_, _^_, _≤_, _<_, suc-le-suc}
 use native.Mathlib.Nat.{add-zero, zero-add, le-of-suc-le-suc, not-suc-le-zero, eq-or-lt-of-le, div-one, div-div-eq-div-mul, pow-succ'}
+use native.Mathlib.Numerals.{add-one}
 use native.Mathlib.Omega.{arith}
-use lib.ListN.{length, getD}
+use lib.ListN.{length, getD, length-map}
 use Rattle.rule.specs.Bits.{bit, setBit, from, below}
 use Rattle.theory.proofs.Member.{In, head, tail, not-nil, cases-cons}
 
@@ -43,6 +44,20 @@ map-from f a (suc n) (suc k) d h = map-from f (suc a) n k d (le-of-suc-le-suc h)
 -- the entry at k of a list that is made by its index
 pub map-below : {A : Type 0} (f : ℕ → A) (n k : ℕ) (d : A) → k < n → getD (map f (below n)) k d ≡ f k
 map-below f n k d h = map-from f 0 n k d h ∙ ap f (zero-add k)
+
+-- one entry more
+from-more : {A : Type 0} (f : ℕ → A) (a k : ℕ) → map f (from a (suc k)) ≡ map f (from a k) ++ (f (a + k) ∷ [])
+unfolding from
+from-more f a zero = let e : a ≡ a + 0 = omega arith in rw (← e)
+from-more f a (suc k) =
+    let e : suc a + k ≡ a + suc k = omega arith in
+    ap (λ l. f a ∷ l) (from-more f (suc a) k ∙ rw e)
+
+pub below-more : {A : Type 0} (f : ℕ → A) (k : ℕ) → map f (below (k + 1)) ≡ map f (below k) ++ (f k ∷ [])
+below-more f k = let e : 0 + k ≡ k = omega arith in rw add-one (from-more f 0 k ∙ rw e)
+
+pub length-below : {A : Type 0} (f : ℕ → A) (k : ℕ) → length (map f (below k)) ≡ k
+length-below f k = length-map (below k) f ∙ length-from 0 k
 
 -- ---- bits
 

@@ -1,0 +1,3 @@
+pub mod Stepped
+pub mod Fields
+pub mod Places

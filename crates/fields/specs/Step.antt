@@ -1,0 +1,71 @@
+-- What the reader's cursor stands for: an outcome of Files.antt.
+-- Assumes nothing.
+use mathlib.Core.Path.{_≡_}
+use mathlib.Core.List.{List, [], _∷_, map}
+use Prim.Native.Nat.{ℕ, _+_, _*_, _≤_}
+use lib.ListN.{length, getD, replicate}
+use Rattle.rule.specs.Bits.{bit, below}
+use Rattle.rule.specs.Cells.{room}
+use Rattle.rule.specs.Files.{Reading, Outcome, andThen, readOr, unless, fieldIf, nothingRead, pastEnd, fileMap, recordAt, readFlags, readOrder, readLabel, readRecords}
+use Rattle.fields.specs.declared.step.Cursor.{Cursor}
+use Rattle.fields.specs.declared.step.Step.{Step}
+
+abbrev pub nothing : ℕ → ℕ → Step
+nothing number at =
+    record {
+      refused = number;
+      cursor = record { n = 0; order = record { places = replicate 10 0 }; label = 0; size = 0; records = 0; count = 0; at = at };
+    }
+
+-- what a file says up to a cursor
+abbrev pub readingOf : List ℕ → Cursor → Reading
+readingOf file x =
+    record {
+      n = x .n;
+      places = x .order .places;
+      label = record { start = x .label; size = x .size };
+      records = map (recordAt file (x .records)) (below (x .count));
+      at = x .at;
+    }
+
+abbrev pub outcomeOf : List ℕ → Step → Outcome
+outcomeOf file s = readOr (s .refused) (readingOf file (s .cursor))
+
+-- the cursor stands before the records, within the file
+pub record Before (file : List ℕ) (x : Cursor) : Type 0 where
+  pub few : x .n ≤ 10
+  pub reached : x .at ≤ length file
+  pub label : x .label + x .size ≤ length file
+  pub start : x .records ≡ 0
+  pub none : x .count ≡ 0
+
+-- it stands behind them; they are in the file, and the cells have room for them
+pub record Whole (c file : List ℕ) (x : Cursor) : Type 0 where
+  pub few : x .n ≤ 10
+  pub reached : x .at ≤ length file
+  pub label : x .label + x .size ≤ length file
+  pub records : x .records + x .count * 5 ≤ length file
+  pub held : x .count ≤ room c
+
+-- a step is this outcome
+pub record Leads (file : List ℕ) (o : Outcome) (s : Step) : Type 0 where
+  pub is : outcomeOf file s ≡ o
+  pub before : Before file (s .cursor)
+
+pub record Ends (c file : List ℕ) (o : Outcome) (s : Step) : Type 0 where
+  pub is : outcomeOf file s ≡ o
+  pub whole : Whole c file (s .cursor)
+
+-- the bit map, of a file that is to be read into cells of a fit length
+unfoldable pub mapRead : List ℕ → Outcome
+mapRead file = unless (pastEnd file 1 ∷ fileMap (getD file 0 0) ∷ []) nothingRead
+
+-- all fields
+unfoldable pub fieldsRead : List ℕ → List ℕ → Outcome
+fieldsRead c file =
+    let map = getD file 0 0 in
+    andThen
+    (andThen
+    (andThen (andThen (mapRead file) (fieldIf (bit map 0) (readFlags file))) (fieldIf (bit map 1) (readOrder file)))
+    (fieldIf (bit map 2) (readLabel file)))
+    (fieldIf (bit map 3) (readRecords c file))

@@ -1,4 +1,0 @@
-pub mod Step
-pub mod Read
-pub mod Run
-pub mod Write

@@ -1,0 +1,149 @@
+use crate::run::put_flags;
+use crate::run::put_records;
+use crate::run::put_two;
+use arguments::all_printable;
+use rule::Counted;
+use rule::Node;
+use rule::Order;
+use rule::Written;
+use runs::put_byte;
+use runs::put_run;
+ghost use mathlib.Core.Path.{_≡_};
+ghost use mathlib.Core.List.{_∷_, _++_};
+ghost use Prim.Native.Nat.{ℕ, _+_, _*_, _≤_, _<_};
+ghost use lib.ListN.{length};
+ghost use Rattle.rule.specs.Cells.{room, flagAt};
+ghost use Rattle.rule.specs.Refusals.{refusal};
+ghost use Rattle.rule.specs.Answers.{writtenReply};
+ghost use Rattle.rule.specs.Files.{two, recordBytes, recordsIn, ifSome, bitIf, fileOf, writeRows, Writes};
+ghost use Rattle.runs.specs.Run.{Puts};
+ghost use Rattle.writing.specs.Write.{mapOf, sizeOf, ownRows, Writable};
+
+// x where there is something, else 0.
+fn if_some(size: usize, x: usize) -> usize
+    ensures { λ r. ⌜ r ≡ bitIf size x ⌝ }
+{
+    if size == 0 {
+        return 0;
+    }
+    x
+}
+
+// The bit map, by a label's length, a record count and a root.
+fn map_byte(size: usize, used: u16, root: u16) -> u8
+    ensures { λ r. ⌜ r ≡ mapOf size used root ⌝ }
+{
+    let map = 3 + if_some(size, 4);
+    if used == 0 {
+        return (map + if_some(root as usize, 16)) as u8;
+    }
+    (map + 8) as u8
+}
+
+// The length of a file of n flags, by its label's length and its record count.
+fn file_size(n: u8, size: usize, used: u16) -> usize
+    requires { ⌜ size ≤ 255 ⌝ }
+    ensures { λ r. ⌜ r ≡ sizeOf n size used ⌝ }
+{
+    let count = used as usize;
+    2 + n as usize + if_some(size, size + 1) + if_some(count, count * 5 + 2)
+}
+
+// What the writer tests of a label and of the lent bytes, 0 for none: 13, then 10.
+fn own_refusal(n: u8, used: u16, label: &[u8], bytes: &[u8]) -> u8
+    ensures { λ r. ⌜ r ≡ refusal (ownRows (sizeOf n (length (now (label .entry))) used) (now (label .entry)) (now (bytes .entry))) ⌝ }
+{
+    if 255 < label.len() {
+        return 13;
+    }
+    if !all_printable(label) {
+        return 13;
+    }
+    if bytes.len() < file_size(n, label.len(), used) {
+        return 10;
+    }
+    0
+}
+
+// The writer's refusal, 0 for none: those of check, then its own.
+fn write_refusal(
+    n: u8,
+    order: Order,
+    cells: &[u16],
+    used: u16,
+    root: Node,
+    label: &[u8],
+    bytes: &[u8],
+) -> u8
+    ensures { λ r. ⌜ r ≡ refusal (writeRows n (order .places) (now (cells .entry)) used (root .number) (now (label .entry)) (now (bytes .entry))) ⌝ }
+{
+    let counted = checking::check(n, order, cells, used, root);
+    match counted {
+        Counted::Refused(k) => k,
+        Counted::Nodes(_) => own_refusal(n, used, label, bytes),
+    }
+}
+
+// Writes a label behind its length, or nothing for an empty one.
+fn put_label(bytes: &mut [u8], at: usize, label: &[u8]) -> usize
+    requires { ⌜ (length (now label) ≤ 255) × (at + length (ifSome (length (now label)) (length (now label) ∷ now label)) ≤ length (now bytes)) ⌝ }
+    ensures { λ r. ⌜ Puts (now (bytes .entry)) at (ifSome (length (now (label .entry))) (length (now (label .entry)) ∷ now (label .entry))) r (now (bytes .exit)) ⌝ }
+{
+    if label.len() == 0 {
+        return at;
+    }
+    let next = put_byte(bytes, at, label.len() as u8);
+    put_run(bytes, next, label)
+}
+
+// Writes the used records behind their count, or nothing for none.
+fn put_counted(bytes: &mut [u8], at: usize, cells: &[u16], used: u16) -> usize
+    requires { ⌜ (used ≤ room (now cells)) × ((k : ℕ) → k < used → flagAt (now cells) k < 256)
+        × (at + length (ifSome used (two used ++ recordBytes (recordsIn (now cells) used))) ≤ length (now bytes)) ⌝ }
+    ensures { λ r. ⌜ Puts (now (bytes .entry)) at (ifSome used (two used ++ recordBytes (recordsIn (now (cells .entry)) used))) r (now (bytes .exit)) ⌝ }
+{
+    if used == 0 {
+        return at;
+    }
+    let next = put_two(bytes, at, used);
+    put_records(bytes, next, cells, used)
+}
+
+// Writes a file that the lent bytes have room for, and hands back its length.
+fn put_file(
+    n: u8,
+    order: Order,
+    cells: &[u16],
+    used: u16,
+    root: u16,
+    label: &[u8],
+    bytes: &mut [u8],
+) -> usize
+    requires { ⌜ Writable n (order .places) (now cells) used root (now label) (now bytes) ⌝ }
+    ensures { λ r. ⌜ Puts (now (bytes .entry)) 0 (fileOf n (order .places) (now (cells .entry)) used root (now (label .entry))) r (now (bytes .exit)) ⌝ }
+{
+    let map = put_byte(bytes, 0, map_byte(label.len(), used, root));
+    let flags = put_byte(bytes, map, n);
+    let named = put_flags(bytes, flags, n, order);
+    let labelled = put_label(bytes, named, label);
+    put_counted(bytes, labelled, cells, used)
+}
+
+// Write: the file's length, with the file in the first of the lent bytes; or why there is none: 1, 4, 5, 6, 7, 13, then 10.
+pub fn write(
+    n: u8,
+    order: Order,
+    cells: &[u16],
+    used: u16,
+    root: Node,
+    label: &[u8],
+    bytes: &mut [u8],
+) -> Written
+    ensures { λ r. ⌜ Writes n (order .places) (now (cells .entry)) used (root .number) (now (label .entry)) (now (bytes .entry)) (writtenReply r) (now (bytes .exit)) ⌝ }
+{
+    let refused = write_refusal(n, order, cells, used, root, label, bytes);
+    if refused != 0 {
+        return Written::Refused(refused);
+    }
+    Written::Bytes(put_file(n, order, cells, used, root.number, label, bytes))
+}
