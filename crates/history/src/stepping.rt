@@ -2,10 +2,15 @@ use crate::requests::Request;
 use rule::Done;
 use rule::Made;
 use rule::Said;
+use store::Passed;
 use store::Store;
+use store::Stored;
+use store::Walked;
+ghost use mathlib.Core.Path.{_≡_};
+ghost use Rattle.rule.specs.Answers.{doneReply, madeReply, saidReply};
 ghost use Rattle.rule.specs.History.{Meets};
 ghost use Rattle.store.specs.State.{stateOf};
-ghost use Rattle.history.specs.Request.{callOf, leftBy, KeepsBytes};
+ghost use Rattle.history.specs.Request.{answerReply, callOf, leftBy, KeepsBytes};
 
 // What a call answers, whichever it is.
 pub enum Answer {
@@ -20,6 +25,42 @@ pub struct Reached {
     pub answer: Answer,
 }
 
+// What a call reached that hands back no value of its own.
+fn done(passed: Passed) -> Reached
+    ensures { λ r. ⌜ (r .store ≡ passed .store) × (answerReply (r .answer) ≡ doneReply (passed .answer)) ⌝ }
+{
+    let store = passed.store;
+    let answer = passed.answer;
+    Reached {
+        store,
+        answer: Answer::Done(answer),
+    }
+}
+
+// What a call reached that makes a rule.
+fn made(stored: Stored) -> Reached
+    ensures { λ r. ⌜ (r .store ≡ stored .store) × (answerReply (r .answer) ≡ madeReply (stored .answer)) ⌝ }
+{
+    let store = stored.store;
+    let answer = stored.answer;
+    Reached {
+        store,
+        answer: Answer::Made(answer),
+    }
+}
+
+// What a walk reached.
+fn said(walked: Walked) -> Reached
+    ensures { λ r. ⌜ (r .store ≡ walked .store) × (answerReply (r .answer) ≡ saidReply (walked .answer)) ⌝ }
+{
+    let store = walked.store;
+    let answer = walked.answer;
+    Reached {
+        store,
+        answer: Answer::Said(answer),
+    }
+}
+
 // Make one call: open is given the state `given`, any other the state `store`.
 pub fn step(
     store: Store,
@@ -32,85 +73,21 @@ pub fn step(
     ensures { λ r. ⌜ KeepsBytes request (now (bytes .entry)) (now (bytes .exit)) ⌝ }
 {
     match request {
-        Request::Open => {
-            let passed = given.open(cells);
-            let store = passed.store;
-            let answer = passed.answer;
-            Reached {
-                store,
-                answer: Answer::Done(answer),
-            }
-        }
-        Request::Constant(value) => {
-            let stored = store.constant(cells, value);
-            let store = stored.store;
-            let answer = stored.answer;
-            Reached {
-                store,
-                answer: Answer::Made(answer),
-            }
-        }
-        Request::Flag(i) => {
-            let stored = store.flag(cells, i);
-            let store = stored.store;
-            let answer = stored.answer;
-            Reached {
-                store,
-                answer: Answer::Made(answer),
-            }
-        }
+        Request::Open => done(given.open(cells)),
+        Request::Constant(value) => made(store.constant(cells, value)),
+        Request::Flag(i) => made(store.flag(cells, i)),
         Request::Join {
             code,
             first,
             second,
-        } => {
-            let stored = store.join(cells, code, first, second);
-            let store = stored.store;
-            let answer = stored.answer;
-            Reached {
-                store,
-                answer: Answer::Made(answer),
-            }
-        }
+        } => made(store.join(cells, code, first, second)),
         Request::Choose {
             first,
             second,
             third,
-        } => {
-            let stored = store.choose(cells, first, second, third);
-            let store = stored.store;
-            let answer = stored.answer;
-            Reached {
-                store,
-                answer: Answer::Made(answer),
-            }
-        }
-        Request::Fix { rule, flag, value } => {
-            let stored = store.fix(cells, rule, flag, value);
-            let store = stored.store;
-            let answer = stored.answer;
-            Reached {
-                store,
-                answer: Answer::Made(answer),
-            }
-        }
-        Request::Tabulate(rule) => {
-            let passed = store.tabulate(cells, rule, bytes);
-            let store = passed.store;
-            let answer = passed.answer;
-            Reached {
-                store,
-                answer: Answer::Done(answer),
-            }
-        }
-        Request::Walk { rule, row } => {
-            let walked = store.walk(cells, rule, row);
-            let store = walked.store;
-            let answer = walked.answer;
-            Reached {
-                store,
-                answer: Answer::Said(answer),
-            }
-        }
+        } => made(store.choose(cells, first, second, third)),
+        Request::Fix { rule, flag, value } => made(store.fix(cells, rule, flag, value)),
+        Request::Tabulate(rule) => done(store.tabulate(cells, rule, bytes)),
+        Request::Walk { rule, row } => said(store.walk(cells, rule, row)),
     }
 }
