@@ -1,22 +1,23 @@
--- How much of an input a listing needs: up to the first line end, or 1,025 bytes. What follows changes nothing that is printed.
+-- How much of an input a listing needs: up to the first line end, or 1,025 bytes. What follows them changes nothing that is printed.
 -- Assumes nothing.
 use mathlib.Core.Path.{_≡_, refl, sym, ap, _∙_}
 use mathlib.Core.Logic.{_⊎_, inl, inr}
-use mathlib.Core.List.{List, [], _∷_}
+use mathlib.Core.List.{List, [], _∷_, _++_}
 use Prim.Native.Nat.{ℕ, zero, suc, _+_, _≤_, _<_}
 use native.Mathlib.Nat.{not-suc-le-zero, le-of-suc-le-suc}
 use native.Mathlib.Decide.{ℕ-discrete, decLt}
 use native.Mathlib.Omega.{arith}
 use borrow.Author.Tests.{lt-ltb}
-use lib.ListN.{length, getD, take}
-use lib.Seq.{length-take-le, take-all, take-take, getD-take}
+use lib.ListN.{length, getD, take, length-append}
+use lib.Seq.{length-take-le, take-all, take-take, take-append-seam, getD-take}
 use Rattle.rule.specs.Refusals.{refusal}
 use Rattle.rule.specs.Text.{readLine}
 use Rattle.rule.specs.Listing.{flagsOf, rowsOf, listingRows, wordLine, listedOr, listing}
+use Rattle.lister.specs.Final.{Final}
 use Rattle.lister.proofs.FirstLine.{Open, open-more, line-to, line-all, line-goes-on}
 
 -- k bytes are all of the input, or 1,025 of it, or have a line end among them
-abbrev pub Suffices : List ℕ → ℕ → Type 0
+abbrev Suffices : List ℕ → ℕ → Type 0
 Suffices input k = (length input ≤ k) ⊎ ((1025 ≤ k) ⊎ ((i : ℕ) × (i < k) × (i < length input) × (getD input i 0 ≡ 10)))
 
 -- the first line end, or that there is none
@@ -70,7 +71,7 @@ module _ (input : List ℕ) (k : ℕ) (h : k < length input) where
       long-line (take k input) (omega (arith, line-long (take k input) k (omega (arith, front)) (open-front k (omega arith) o)))
       ∙ sym (long-line input (omega (arith, line-long input k (omega arith) o)))
 
-pub enough : (input : List ℕ) (k : ℕ) → Suffices input k → listing (take k input) ≡ listing input
+enough : (input : List ℕ) (k : ℕ) → Suffices input k → listing (take k input) ≡ listing input
 enough input k s =
     elim (decLt k (length input)) [
       | no d ↦ ap listing (take-all k input (omega arith))
@@ -85,3 +86,17 @@ enough input k s =
                 ]
           ]
     ]
+
+-- ---- of bytes that more may follow
+
+getD-front : (l rest : List ℕ) (i : ℕ) → i < length l → getD (l ++ rest) i 0 ≡ getD l i 0
+getD-front l rest i h = sym (getD-take (length l) (l ++ rest) i 0 h) ∙ ap (λ (m : List ℕ). getD m i 0) (take-append-seam l rest)
+
+final : (l rest : List ℕ) → Suffices (l ++ rest) (length l) → listing (l ++ rest) ≡ listing l
+final l rest s = sym (enough (l ++ rest) (length l) s) ∙ ap listing (take-append-seam l rest)
+
+pub long-final : (l : List ℕ) → 1025 ≤ length l → Final l
+long-final l h rest = final l rest (inr (inl h))
+
+pub ended-final : (l : List ℕ) (i : ℕ) → i < length l → getD l i 0 ≡ 10 → Final l
+ended-final l i h e rest = final l rest (inr (inr (i, h, omega (arith, length-append l rest), getD-front l rest i h ∙ e)))

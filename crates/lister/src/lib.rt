@@ -4,5 +4,6 @@ mod line;
 mod report;
 mod whole;
 
+pub use line::is_enough;
 pub use whole::PRINTED;
 pub use whole::listing;

@@ -6,6 +6,7 @@ ghost use Rattle.rule.specs.Tests.{each};
 ghost use Rattle.rule.specs.Refusals.{refusal};
 ghost use Rattle.rule.specs.Text.{readLine};
 ghost use Rattle.rule.specs.Listing.{isDigit, rowsOf, flagsFrom, lineRows};
+ghost use Rattle.lister.specs.Final.{Final};
 
 // Where the first line ends: at the first 0A, or at the end of the input.
 pub fn line_end(input: &[u8]) -> usize
@@ -19,6 +20,19 @@ pub fn line_end(input: &[u8]) -> usize
         i += 1;
     }
     i
+}
+
+// Whether no byte behind these counts: the last of them ends the line, or they are more than a table's rows.
+pub fn is_enough(input: &[u8]) -> bool
+    ensures { λ r. ⌜ (r ≡ true → Final (now (input .entry))) ⌝ }
+{
+    if 1024 < input.len() {
+        return true;
+    }
+    if input.len() == 0 {
+        return false;
+    }
+    input[input.len() - 1] == 0x0A
 }
 
 // The flags of a table of so many rows, 11 where that is no power of two up to 1,024.

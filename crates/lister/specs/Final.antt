@@ -1,0 +1,10 @@
+-- An input that no more bytes change.
+-- Assumes nothing.
+use mathlib.Core.Path.{_≡_}
+use mathlib.Core.List.{List, _++_}
+use Prim.Native.Nat.{ℕ}
+use Rattle.rule.specs.Listing.{listing}
+
+-- whatever follows these bytes, the same is printed
+abbrev pub Final : List ℕ → Type 0
+Final input = (rest : List ℕ) → listing (input ++ rest) ≡ listing input

@@ -1,0 +1,4 @@
+// The listing program, given a table that ends with the input.
+fn main() {
+    console::run();
+}
