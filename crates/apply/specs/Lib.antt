@@ -1,2 +1,3 @@
 pub mod Step
 pub mod Grow
+pub mod Settle

@@ -27,9 +27,9 @@ use Rattle.unique.proofs.Settled.{Settled, Unsettled, settled, unsettled}
 use Rattle.checking.proofs.Refused.{cellRows, Taken}
 use Rattle.checking.proofs.Parts.{fit-room, sound-room}
 use Rattle.apply.specs.Grow.{Ready, From, Comes}
-use Rattle.store.specs.declared.settle.Outcome.{Outcome}
+use Rattle.apply.specs.declared.ending.Outcome.{Outcome}
 use Rattle.rule.specs.Answers.{madeReply}
-use Rattle.store.specs.Settle.{Settles}
+use Rattle.apply.specs.Settle.{Settles}
 
 -- ---- cells that were taken
 

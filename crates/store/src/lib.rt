@@ -2,7 +2,6 @@
 // methods of the state.
 mod making;
 mod plain;
-mod settle;
 mod state;
 
 pub use state::Passed;

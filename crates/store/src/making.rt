@@ -1,7 +1,7 @@
 // The calls that make a rule: flag, join, choose and fix.
-use crate::settle::settle;
 use crate::state::Store;
 use crate::state::Stored;
+use apply::settle;
 use arguments::Levels;
 use operators::Digit;
 use rule::Made;
@@ -87,7 +87,7 @@ impl Store {
             };
         }
         let levels = Levels::turn(self.n, self.order);
-        let grown = apply::join_nodes(levels, code, 0, f, g, cells, &mut index, self.used);
+        let grown = joining::join_nodes(levels, code, 0, f, g, cells, &mut index, self.used);
         let outcome = settle(cells, self.used, grown);
         self.used = outcome.used;
         let answer = outcome.answer;
@@ -131,7 +131,7 @@ impl Store {
             };
         }
         let levels = Levels::turn(self.n, self.order);
-        let grown = apply::choose_nodes(levels, 0, f, g, h, cells, &mut index, self.used);
+        let grown = choosing::choose_nodes(levels, 0, f, g, h, cells, &mut index, self.used);
         let outcome = settle(cells, self.used, grown);
         self.used = outcome.used;
         let answer = outcome.answer;
@@ -173,7 +173,7 @@ impl Store {
             };
         }
         let levels = Levels::turn(self.n, self.order);
-        let grown = apply::fix_node(levels, i, value, 0, m, cells, &mut index, self.used);
+        let grown = fixing::fix_node(levels, i, value, 0, m, cells, &mut index, self.used);
         let outcome = settle(cells, self.used, grown);
         self.used = outcome.used;
         let answer = outcome.answer;

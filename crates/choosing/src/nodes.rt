@@ -1,0 +1,72 @@
+use apply::branch;
+use apply::earlier;
+use arguments::Levels;
+use unique::Found;
+use unique::Grown;
+ghost use mathlib.Core.Path.{_≡_};
+ghost use Rattle.rule.specs.Results.{madeIn, choose};
+ghost use Rattle.unique.specs.Node.{grown};
+ghost use Rattle.apply.specs.Grow.{Ready, From, Comes};
+
+// A node that is there.
+fn found(used: u16, m: u16) -> Grown
+    ensures { λ r. ⌜ r ≡ grown used m ⌝ }
+{
+    Grown {
+        used,
+        found: Found::At(m),
+    }
+}
+
+// If-then-else: the node of the second rule where the first says yes, else of the third, where none of the nodes asks a flag before level `at`.
+pub fn choose_nodes(
+    levels: Levels,
+    at: u8,
+    f: u16,
+    g: u16,
+    h: u16,
+    cells: &mut [u16],
+    index: &mut [u16; unique::INDEX],
+    used: u16,
+) -> Grown
+    requires { ⌜ Ready levels (now cells) used (now index) × From levels (now cells) used at f × From levels (now cells) used at g × From levels (now cells) used at h ⌝ }
+    ensures { λ r. ⌜ Comes levels (madeIn (levels .n) (now (cells .entry)) (choose f g h)) at (now (cells .entry)) used r (now (cells .exit)) (now (index .exit)) ⌝ }
+{
+    if f == 0 {
+        return found(used, h);
+    }
+    if f == 1 {
+        return found(used, g);
+    }
+    if g == h {
+        return found(used, g);
+    }
+    let top = earlier(levels, cells, f, earlier(levels, cells, g, h));
+    let flag = cells::flag_at(cells, top - 2);
+    let next = levels.level(flag) + 1;
+    let f_no = branch(cells, flag, 0, f);
+    let g_no = branch(cells, flag, 0, g);
+    let h_no = branch(cells, flag, 0, h);
+    let first = choose_nodes(levels, next, f_no, g_no, h_no, cells, index, used);
+    let lower = first.found;
+    match lower {
+        Found::Full => Grown {
+            used: first.used,
+            found: Found::Full,
+        },
+        Found::At(low) => {
+            let f_yes = branch(cells, flag, 1, f);
+            let g_yes = branch(cells, flag, 1, g);
+            let h_yes = branch(cells, flag, 1, h);
+            let second = choose_nodes(levels, next, f_yes, g_yes, h_yes, cells, index, first.used);
+            let higher = second.found;
+            match higher {
+                Found::Full => Grown {
+                    used: second.used,
+                    found: Found::Full,
+                },
+                Found::At(high) => unique::make(cells, index, second.used, flag, low, high),
+            }
+        }
+    }
+}
