@@ -5,7 +5,7 @@ ghost use mathlib.Core.Path.{_≡_};
 ghost use mathlib.Core.Bool.{false};
 ghost use Prim.Native.Nat.{_≤_};
 ghost use lib.ListN.{length, take};
-ghost use Rattle.lister.specs.Final.{Final};
+ghost use Rattle.parsing.specs.Final.{Final};
 
 // As many bytes as a listing needs at most.
 const ENOUGH: usize = 1025;
@@ -39,7 +39,7 @@ fn read(input: &mut [u8]) -> Input
         }
         input[i] = byte[0];
         i += 1;
-        if lister::is_enough(&input[0..i]) {
+        if parsing::is_enough(&input[0..i]) {
             return so_many(i);
         }
     }

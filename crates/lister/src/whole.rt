@@ -1,8 +1,8 @@
-use crate::line::flags_of;
-use crate::line::line_end;
-use crate::line::line_refusal;
-use crate::line::read_rows;
 use crate::report::put_report;
+use parsing::flags_of;
+use parsing::line_end;
+use parsing::line_refusal;
+use parsing::read_rows;
 use rule::Drawn;
 use runs::put_line;
 ghost use mathlib.Core.Path.{_≡_};

@@ -1,4 +1,1 @@
-pub mod Stretch
-pub mod Choice
-pub mod Order
 pub mod Lent

@@ -1,8 +1,7 @@
-use crate::search::search;
-use crate::stretch;
 use rule::Drawn;
 use rule::Order;
 use rule::Packed;
+use searching::search;
 ghost use mathlib.Core.Path.{_≡_};
 ghost use Rattle.rule.specs.Answers.{packedReply};
 ghost use Rattle.rule.specs.Calls.{Pack};
@@ -20,7 +19,7 @@ fn lent_refusal(n: u8, table: &[u8], cells: &[u16], workspace: &[u16]) -> u8
     if !cells::fit_cells(cells) {
         return 5;
     }
-    if workspace.len() < stretch::cell_count(n) {
+    if workspace.len() < searching::cell_count(n) {
         return 8;
     }
     0

@@ -8,8 +8,8 @@ use denote.Ref.{now}
 use lib.ListN.{length, length-replicate}
 use Rattle.rule.specs.Table.{fitRows}
 use Rattle.rule.specs.Text.{text}
-use Rattle.lister.proofs.FirstLine.{rows-power}
-use Rattle.lister.proofs.Characters.{rows-fit, rows-length, held-front, read-front, read-room}
+use Rattle.parsing.proofs.FirstLine.{rows-power}
+use Rattle.parsing.proofs.Characters.{rows-fit, rows-length, held-front, read-front, read-room}
 use Rattle.lister.proofs.Listed.{line-refused, line-fits, line-listed}
 use Rattle.lister.proofs.whole.list_line.Statement.{statement}
 use Rattle.lister.proofs.whole.list_line.Tie as tie
