@@ -1,6 +1,6 @@
 // A file with one byte changed, cut, or one byte longer: a line for each. The file is left as it was.
 use crate::loading::load;
-use script::print;
+use words::print;
 
 // The file with a byte at a place.
 fn with(file: &mut [u8], place: usize, byte: u8, lent: usize) {

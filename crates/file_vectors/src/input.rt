@@ -7,11 +7,11 @@ use crate::changing::values;
 use crate::loading::load;
 use crate::saving::save;
 use libc::STDIN_FILENO;
-use script::print;
-use script::read::byte;
-use script::read::bytes;
-use script::read::line_end;
-use script::read::number;
+use words::print;
+use words::read::byte;
+use words::read::bytes;
+use words::read::line_end;
+use words::read::number;
 
 // The longest file that a line may have: with 1,024 records it has 5,390 bytes.
 const LONGEST: usize = 6000;

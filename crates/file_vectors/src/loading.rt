@@ -2,9 +2,9 @@
 use rule::Loaded;
 use rule::Node;
 use rule::Order;
-use script::lent::each_byte_is;
-use script::lent::each_is;
-use script::print;
+use words::lent::each_byte_is;
+use words::lent::each_is;
+use words::print;
 
 // The cells that are lent at most: three more than the paper allows.
 pub const MOST: usize = 3075;

@@ -3,12 +3,12 @@ use crate::loading::MOST;
 use rule::Node;
 use rule::Order;
 use rule::Written;
-use script::lent::each_byte_is;
-use script::print;
-use script::read::byte;
-use script::read::bytes;
-use script::read::cells;
-use script::read::number;
+use words::lent::each_byte_is;
+use words::print;
+use words::read::byte;
+use words::read::bytes;
+use words::read::cells;
+use words::read::number;
 
 // What the bytes are lent with.
 const JUNK: u8 = 85;

@@ -1,8 +1,8 @@
 // The second program's tables, each line of standard input listed by itself. tests/second/listing.rs says what must be written.
 use libc::STDIN_FILENO;
 use libc::STDOUT_FILENO;
-use script::print;
-use script::read::line_end;
+use words::print;
+use words::read::line_end;
 
 // The listing of one line.
 fn list(line: &[u8]) {

@@ -1,13 +1,13 @@
 // A table drawn under an order, and held against what check, tabulate and walk say of it.
-use crate::print;
-use crate::read::digits;
-use crate::read::order;
 use rule::Counted;
 use rule::Done;
 use rule::Drawn;
 use rule::Node;
 use rule::Order;
 use rule::Said;
+use words::print;
+use words::read::digits;
+use words::read::order;
 
 // The flags of a table of so many rows, 11 where it has none.
 pub fn flag_count(rows: usize) -> u8 {

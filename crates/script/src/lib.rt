@@ -10,10 +10,8 @@
 //
 // A table is a digit for each row, row 0 first. An order is a digit for each flag, and what is not written of its ten places is 0.
 mod draw;
-pub mod lent;
 mod one;
 mod pack;
-pub mod print;
-pub mod read;
+mod playing;
 
-pub use read::run;
+pub use playing::run;

@@ -1,16 +1,16 @@
 // One call a line.
 use crate::draw::drawn;
-use crate::print;
-use crate::read::cells;
-use crate::read::digits;
-use crate::read::number;
-use crate::read::order;
 use rule::Counted;
 use rule::Done;
 use rule::Drawn;
 use rule::Node;
 use rule::Order;
 use rule::Said;
+use words::print;
+use words::read::cells;
+use words::read::digits;
+use words::read::number;
+use words::read::order;
 
 // The low byte of a number that was read: a flag count.
 pub fn flags(value: u16) -> u8 {

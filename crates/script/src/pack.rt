@@ -2,14 +2,14 @@
 use crate::draw::agrees;
 use crate::draw::flag_count;
 use crate::draw::flag_counts;
-use crate::lent::each_is;
 use crate::one::flags;
-use crate::print;
-use crate::read::digits;
-use crate::read::number;
 use rule::Drawn;
 use rule::Order;
 use rule::Packed;
+use words::lent::each_is;
+use words::print;
+use words::read::digits;
+use words::read::number;
 
 // The most workspace that a line lends: 3^10 cells, and three to spare.
 const WORKSPACE: usize = 59052;

@@ -3,8 +3,8 @@ use crate::session::NONE;
 use crate::session::Session;
 use rule::Done;
 use rule::Node;
-use script::print;
 use store::Store;
+use words::print;
 ghost use Prim.Native.Nat.{_≤_, _<_};
 
 // The rows of a table of so many flags.

@@ -11,10 +11,10 @@ use rule::Done;
 use rule::Made;
 use rule::Node;
 use rule::Said;
-use script::print;
-use script::read::byte;
-use script::read::number;
 use store::Store;
+use words::print;
+use words::read::byte;
+use words::read::number;
 
 // A number that no refusal has, for an answer of another kind than the call's.
 const NO_NUMBER: u8 = 255;

@@ -5,14 +5,14 @@ use crate::session::NONE;
 use crate::session::Session;
 use libc::STDIN_FILENO;
 use rule::Order;
-use script::print;
-use script::read::Word;
-use script::read::behind;
-use script::read::byte;
-use script::read::line_end;
-use script::read::number;
-use script::read::order;
 use store::Store;
+use words::print;
+use words::read::Word;
+use words::read::behind;
+use words::read::byte;
+use words::read::line_end;
+use words::read::number;
+use words::read::order;
 
 // The cells that a list is lent at most: three more than the paper allows.
 const MOST: usize = 3075;

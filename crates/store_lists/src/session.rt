@@ -1,5 +1,5 @@
-use script::print;
 use store::Store;
+use words::print;
 ghost use Prim.Native.Nat.{_≤_};
 
 // Stands for the node of a call that handed none back.

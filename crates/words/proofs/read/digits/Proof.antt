@@ -1,11 +1,11 @@
--- `script::read::digits` meets its contract: it counts up to the length.
+-- `words::read::digits` meets its contract: it counts up to the length.
 -- Assumes nothing.
 use Prim.Native.Nat.{_-_, _≤_}
 use borrow.Author.Needs.{needs}
 use lib.ListN.{length}
 use mathlib.Core.Path.{_≡_}
-use Rattle.script.proofs.read.digits.Statement.{statement}
-use Rattle.script.proofs.read.digits.Tie as tie
+use Rattle.words.proofs.read.digits.Statement.{statement}
+use Rattle.words.proofs.read.digits.Tie as tie
 
 abbrev Inv-loop : tie.InvT-loop
 Inv-loop text at out₀ count₀ i₀ out count i = (count ≤ 65535) × (length out ≡ length out₀)

@@ -1,12 +1,12 @@
--- `script::read::cells` meets its contract: it counts up to the cells, and each number moves it on.
+-- `words::read::cells` meets its contract: it counts up to the cells, and each number moves it on.
 -- Assumes nothing.
 use Prim.Native.Nat.{_-_, _≤_}
 use borrow.Author.Needs.{needs}
 use lib.ListN.{length, length-set}
 use native.Mathlib.Omega.{arith}
 use mathlib.Core.Path.{_≡_}
-use Rattle.script.proofs.read.cells.Statement.{statement}
-use Rattle.script.proofs.read.cells.Tie as tie
+use Rattle.words.proofs.read.cells.Statement.{statement}
+use Rattle.words.proofs.read.cells.Tie as tie
 
 abbrev Inv-loop : tie.InvT-loop
 Inv-loop text at out₀ i₀ count₀ out i count = (count ≤ length out) × (length out ≡ length out₀)

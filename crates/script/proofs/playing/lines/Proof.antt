@@ -1,10 +1,10 @@
--- `script::read::lines` meets its contract: each line moves it on.
+-- `script::playing::lines` meets its contract: each line moves it on.
 -- Assumes nothing.
 use Prim.Native.Nat.{_-_, _≤_}
 use borrow.Author.Needs.{needs}
 use lib.ListN.{length}
-use Rattle.script.proofs.read.lines.Statement.{statement}
-use Rattle.script.proofs.read.lines.Tie as tie
+use Rattle.script.proofs.playing.lines.Statement.{statement}
+use Rattle.script.proofs.playing.lines.Tie as tie
 
 abbrev Inv-loop : tie.InvT-loop
 Inv-loop text at₀ at = (0 ≤ at)

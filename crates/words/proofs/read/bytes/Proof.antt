@@ -1,11 +1,11 @@
--- `script::read::bytes` meets its contract: each pair moves it on.
+-- `words::read::bytes` meets its contract: each pair moves it on.
 -- Assumes nothing.
 use Prim.Native.Nat.{_-_, _≤_}
 use borrow.Author.Needs.{needs}
 use lib.ListN.{length}
 use mathlib.Core.Path.{_≡_}
-use Rattle.script.proofs.read.bytes.Statement.{statement}
-use Rattle.script.proofs.read.bytes.Tie as tie
+use Rattle.words.proofs.read.bytes.Statement.{statement}
+use Rattle.words.proofs.read.bytes.Tie as tie
 
 abbrev Inv-loop : tie.InvT-loop
 Inv-loop text at out₀ count₀ i₀ out count i = (count ≤ 65535) × (length out ≡ length out₀)

@@ -1,10 +1,10 @@
--- `script::read::line_end` meets its contract: it counts up to the length.
+-- `words::read::line_end` meets its contract: it counts up to the length.
 -- Assumes nothing.
 use Prim.Native.Nat.{_-_, _≤_}
 use borrow.Author.Needs.{needs}
 use lib.ListN.{length}
-use Rattle.script.proofs.read.line_end.Statement.{statement}
-use Rattle.script.proofs.read.line_end.Tie as tie
+use Rattle.words.proofs.read.line_end.Statement.{statement}
+use Rattle.words.proofs.read.line_end.Tie as tie
 
 abbrev Inv-loop : tie.InvT-loop
 Inv-loop text at i₀ i = (at ≤ i) × (i ≤ length text)

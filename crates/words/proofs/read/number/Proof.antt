@@ -1,10 +1,10 @@
--- `script::read::number` meets its contract: the value stays a sixteen-bit number.
+-- `words::read::number` meets its contract: the value stays a sixteen-bit number.
 -- Assumes nothing.
 use Prim.Native.Nat.{_-_, _<_}
 use borrow.Author.Needs.{needs}
 use lib.ListN.{length}
-use Rattle.script.proofs.read.number.Statement.{statement}
-use Rattle.script.proofs.read.number.Tie as tie
+use Rattle.words.proofs.read.number.Statement.{statement}
+use Rattle.words.proofs.read.number.Tie as tie
 
 abbrev Inv-loop : tie.InvT-loop
 Inv-loop text at value₀ i₀ value i = (value < 65536)

@@ -1,11 +1,11 @@
--- `script::print::rows` meets its contract: it counts up to the length, or to 2,048.
+-- `words::print::rows` meets its contract: it counts up to the length, or to 2,048.
 -- Assumes nothing.
 use Prim.Native.Nat.{_-_, _≤_}
 use borrow.Author.Needs.{needs}
 use lib.ListN.{length}
 use mathlib.Core.Path.{_≡_}
-use Rattle.script.proofs.print.rows.Statement.{statement}
-use Rattle.script.proofs.print.rows.Tie as tie
+use Rattle.words.proofs.print.rows.Statement.{statement}
+use Rattle.words.proofs.print.rows.Tie as tie
 
 abbrev Inv-loop : tie.InvT-loop
 Inv-loop table text₀ i₀ text i = (i ≤ 2048) × (length text ≡ 2048)

@@ -1,10 +1,10 @@
--- `script::read::behind` meets its contract: it counts up to the length.
+-- `words::read::behind` meets its contract: it counts up to the length.
 -- Assumes nothing.
 use Prim.Native.Nat.{_-_, _≤_}
 use borrow.Author.Needs.{needs}
 use lib.ListN.{length}
-use Rattle.script.proofs.read.behind.Statement.{statement}
-use Rattle.script.proofs.read.behind.Tie as tie
+use Rattle.words.proofs.read.behind.Statement.{statement}
+use Rattle.words.proofs.read.behind.Tie as tie
 
 abbrev Inv-loop : tie.InvT-loop
 Inv-loop text at i₀ i = (0 ≤ i)

@@ -1,10 +1,10 @@
--- `script::lent::each_byte_is` meets its contract: it counts up to the length.
+-- `words::lent::each_byte_is` meets its contract: it counts up to the length.
 -- Assumes nothing.
 use Prim.Native.Nat.{_-_, _≤_}
 use borrow.Author.Needs.{needs}
 use lib.ListN.{length}
-use Rattle.script.proofs.lent.each_byte_is.Statement.{statement}
-use Rattle.script.proofs.lent.each_byte_is.Tie as tie
+use Rattle.words.proofs.lent.each_byte_is.Statement.{statement}
+use Rattle.words.proofs.lent.each_byte_is.Tie as tie
 
 abbrev Inv-loop : tie.InvT-loop
 Inv-loop bytes value i₀ i = (i ≤ length bytes)

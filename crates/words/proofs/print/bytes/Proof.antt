@@ -1,10 +1,10 @@
--- `script::print::bytes` meets its contract: it counts up to the length.
+-- `words::print::bytes` meets its contract: it counts up to the length.
 -- Assumes nothing.
 use Prim.Native.Nat.{_-_, _≤_}
 use borrow.Author.Needs.{needs}
 use lib.ListN.{length}
-use Rattle.script.proofs.print.bytes.Statement.{statement}
-use Rattle.script.proofs.print.bytes.Tie as tie
+use Rattle.words.proofs.print.bytes.Statement.{statement}
+use Rattle.words.proofs.print.bytes.Tie as tie
 
 abbrev Inv-loop : tie.InvT-loop
 Inv-loop bytes i₀ i = (i ≤ length bytes)

@@ -1,0 +1,4 @@
+// What test programs share: the words of a line read, values printed, and what lent cells and bytes have.
+pub mod lent;
+pub mod print;
+pub mod read;
