@@ -3,9 +3,8 @@
 use mathlib.Core.Path.{_≡_, refl, ap, _∙_}
 use mathlib.Core.Bool.{Bool, true, false}
 use mathlib.Core.List.{List}
-use Prim.Native.Nat.{ℕ, _+_, _≤_}
+use Prim.Native.Nat.{ℕ, _+_}
 use native.Mathlib.Nat.{add-zero}
-use native.Mathlib.Omega.{arith}
 use borrow.Author.Tests.{eq-eqb, ne-eqb}
 use lib.Dec.{eqb}
 use lib.ListN.{length}
@@ -13,18 +12,12 @@ use Rattle.rule.specs.Bits.{from, below}
 use Rattle.rule.specs.Tests.{keep}
 use Rattle.rule.specs.Cells.{flagAt}
 use Rattle.rule.specs.Diagram.{asking}
-use Rattle.theory.proofs.Bits.{length-from}
-use Rattle.theory.proofs.Tests.{length-keep}
 use Rattle.theory.proofs.Scan.{more, counted}
 
 module _ (c : List ℕ) (v : ℕ) where
   pub asked-none : 0 ≡ asking c 0 v
   unfolding asking keep from
   asked-none = refl
-
-  pub asked-le : (k : ℕ) → asking c k v ≤ k
-  unfolding asking
-  asked-le k = omega (arith, length-keep (λ k. eqb (flagAt c k) v) (below k), length-from 0 k)
 
   next : (k : ℕ) (b : Bool) → eqb (flagAt c k) v ≡ b → asking c (k + 1) v ≡ asking c k v + more b
   unfolding asking

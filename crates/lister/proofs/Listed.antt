@@ -1,16 +1,15 @@
 -- What is printed, from the refusal of the line and the answer of pack.
 -- Assumes nothing.
-use mathlib.Core.Path.{_≡_, refl, sym, ap, ap₂, _∙_}
-use mathlib.Core.Bool.{Bool, true, false, not}
-use mathlib.Core.List.{List, [], _∷_, _++_}
-use Prim.Native.Nat.{ℕ, zero, suc, _+_, _*_, _^_, _≤_, _<_}
+use mathlib.Core.Path.{_≡_, refl, sym, ap, _∙_}
+use mathlib.Core.Bool.{true, false, not}
+use mathlib.Core.List.{List, [], _∷_}
+use Prim.Native.Nat.{ℕ, zero, suc, _+_, _^_, _≤_, _<_}
 use native.Mathlib.Decide.{ℕ-discrete}
 use native.Mathlib.Omega.{arith}
-use borrow.Author.Tests.{ltb-false, lt-ltb, le-ltb, eq-eqb, not-false}
+use borrow.Author.Tests.{ltb-false, le-ltb, eq-eqb, not-false}
 use lib.Dec.{ltb}
-use lib.ListN.{length, take, length-append, length-take, length-replicate}
+use lib.ListN.{length, length-append, length-take, length-replicate}
 use lib.Pow.{pow-mono}
-use Rattle.rule.specs.Bits.{below}
 use Rattle.rule.specs.Tests.{each}
 use Rattle.rule.specs.Table.{fitLength, fitRows}
 use Rattle.rule.specs.Level.{size}
@@ -22,7 +21,7 @@ use Rattle.rule.specs.Reply.{accepted, refused}
 use Rattle.rule.specs.Results.{rootBy}
 use Rattle.rule.specs.Calls.{Draws, Pack}
 use Rattle.rule.specs.Demands.{Fit}
-use Rattle.rule.specs.Listing.{isDigit, flagsOf, rowsOf, lineRows, shortWorkspace, listingRows, wordLine, flagLines, orderLine, askingPacked, yesCount, listed, listedOr}
+use Rattle.rule.specs.Listing.{isDigit, flagsOf, rowsOf, lineRows, shortWorkspace, listingRows, wordLine, askingPacked, listed, listedOr}
 use Rattle.theory.proofs.Refused.{row-passed, refused-more, passed-more, refused-is, accepted-is}
 use Rattle.theory.proofs.Orders.{packed-fit, packed-flags}
 use Rattle.demands.proofs.Exists.{size-few}

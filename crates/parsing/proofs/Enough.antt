@@ -1,20 +1,22 @@
 -- How much of an input a listing needs: up to the first line end, or 1,025 bytes. What follows them changes nothing that is printed.
 -- Assumes nothing.
 use mathlib.Core.Path.{_≡_, refl, sym, ap, _∙_}
+use mathlib.Core.Bool.{Bool, true, false, _||_}
 use mathlib.Core.Logic.{_⊎_, inl, inr}
 use mathlib.Core.List.{List, [], _∷_, _++_}
-use Prim.Native.Nat.{ℕ, zero, suc, _+_, _≤_, _<_}
+use Prim.Native.Nat.{ℕ, zero, suc, _+_, _-_, _≤_, _<_}
 use native.Mathlib.Nat.{not-suc-le-zero, le-of-suc-le-suc}
 use native.Mathlib.Decide.{ℕ-discrete, decLt}
 use native.Mathlib.Omega.{arith}
-use borrow.Author.Tests.{lt-ltb}
+use borrow.Author.Tests.{lt-ltb, ltb-true, eqb-true}
+use lib.Dec.{eqb, ltb}
 use lib.ListN.{length, getD, take, length-append}
 use lib.Seq.{length-take-le, take-all, take-take, take-append-seam, getD-take}
 use Rattle.rule.specs.Refusals.{refusal}
 use Rattle.rule.specs.Text.{readLine}
 use Rattle.rule.specs.Listing.{flagsOf, rowsOf, listingRows, wordLine, listedOr, listing}
-use Rattle.parsing.specs.Final.{Final}
-use Rattle.parsing.proofs.FirstLine.{Open, open-more, line-to, line-all, line-goes-on}
+use Rattle.parsing.specs.Final.{enough, Final}
+use Rattle.parsing.proofs.FirstLine.{Open, open-more, line-to, line-goes-on}
 
 -- k bytes are all of the input, or 1,025 of it, or have a line end among them
 abbrev Suffices : List ℕ → ℕ → Type 0
@@ -71,8 +73,8 @@ module _ (input : List ℕ) (k : ℕ) (h : k < length input) where
       long-line (take k input) (omega (arith, line-long (take k input) k (omega (arith, front)) (open-front k (omega arith) o)))
       ∙ sym (long-line input (omega (arith, line-long input k (omega arith) o)))
 
-enough : (input : List ℕ) (k : ℕ) → Suffices input k → listing (take k input) ≡ listing input
-enough input k s =
+suffices : (input : List ℕ) (k : ℕ) → Suffices input k → listing (take k input) ≡ listing input
+suffices input k s =
     elim (decLt k (length input)) [
       | no d ↦ ap listing (take-all k input (omega arith))
       | yes h ↦
@@ -93,10 +95,30 @@ getD-front : (l rest : List ℕ) (i : ℕ) → i < length l → getD (l ++ rest)
 getD-front l rest i h = sym (getD-take (length l) (l ++ rest) i 0 h) ∙ ap (λ (m : List ℕ). getD m i 0) (take-append-seam l rest)
 
 final : (l rest : List ℕ) → Suffices (l ++ rest) (length l) → listing (l ++ rest) ≡ listing l
-final l rest s = sym (enough (l ++ rest) (length l) s) ∙ ap listing (take-append-seam l rest)
+final l rest s = sym (suffices (l ++ rest) (length l) s) ∙ ap listing (take-append-seam l rest)
 
 pub long-final : (l : List ℕ) → 1025 ≤ length l → Final l
 long-final l h rest = final l rest (inr (inl h))
 
-pub ended-final : (l : List ℕ) (i : ℕ) → i < length l → getD l i 0 ≡ 10 → Final l
+ended-final : (l : List ℕ) (i : ℕ) → i < length l → getD l i 0 ≡ 10 → Final l
 ended-final l i h e rest = final l rest (inr (inr (i, h, omega (arith, length-append l rest), getD-front l rest i h ∙ e)))
+
+ends-within : (l : List ℕ) → getD l (length l - 1) 0 ≡ 10 → length l - 1 < length l
+ends-within [] e = let z : _≡_ {A = ℕ} 0 10 = e in absurd (omega arith)
+ends-within (b ∷ bs) e = omega arith
+
+pub enough-final : (l : List ℕ) → enough l ≡ true → Final l
+unfolding enough
+enough-final l e = go (ltb 1024 (length l)) refl e
+  where
+    go : (b : Bool) → ltb 1024 (length l) ≡ b → (b || eqb (getD l (length l - 1) 0) 10) ≡ true → Final l
+    go true h e = long-final l (ltb-true 1024 (length l) h)
+    go false h e =
+        let last = eqb-true (getD l (length l - 1) 0) 10 e in
+        ended-final l (length l - 1) (ends-within l last) last
+
+-- of no bytes more are needed
+pub none-enough : (l : List ℕ) → length l ≡ 0 → false ≡ enough l
+unfolding enough
+none-enough [] e = refl
+none-enough (b ∷ bs) e = absurd (omega arith)

@@ -6,7 +6,7 @@ ghost use Rattle.rule.specs.Tests.{each};
 ghost use Rattle.rule.specs.Refusals.{refusal};
 ghost use Rattle.rule.specs.Text.{readLine};
 ghost use Rattle.rule.specs.Listing.{isDigit, rowsOf, flagsFrom, lineRows};
-ghost use Rattle.parsing.specs.Final.{Final};
+ghost use Rattle.parsing.specs.Final.{enough};
 
 // Where the first line ends: at the first 0A, or at the end of the input.
 pub fn line_end(input: &[u8]) -> usize
@@ -24,7 +24,7 @@ pub fn line_end(input: &[u8]) -> usize
 
 // Whether no byte behind these counts: the last of them ends the line, or they are more than a table's rows.
 pub fn is_enough(input: &[u8]) -> bool
-    ensures { λ r. ⌜ (r ≡ true → Final (now (input .entry))) ⌝ }
+    ensures { λ r. ⌜ r ≡ enough (now (input .entry)) ⌝ }
 {
     if 1024 < input.len() {
         return true;

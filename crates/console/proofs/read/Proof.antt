@@ -1,6 +1,6 @@
 -- `console::read` meets its contract: each byte moves it on, and the whole of what was lent is enough.
 -- Assumes nothing.
-use mathlib.Core.Path.{_≡_}
+use mathlib.Core.Path.{_≡_, sym, _∙_}
 use mathlib.Core.Bool.{true≢false}
 use Prim.Native.Nat.{_-_, _≤_}
 use native.Mathlib.Nat.{sub-zero}
@@ -8,7 +8,7 @@ use native.Mathlib.Omega.{arith}
 use borrow.Author.Needs.{needs}
 use lib.ListN.{length, take, length-set}
 use lib.Seq.{length-take-le}
-use Rattle.parsing.proofs.Enough.{long-final}
+use Rattle.parsing.proofs.Enough.{long-final, enough-final}
 use Rattle.console.proofs.read.Statement.{statement}
 use Rattle.console.proofs.read.Tie as tie
 
@@ -28,7 +28,7 @@ returns-2 : tie.Need-returns-2 Inv-loop μ-loop
 returns-2 c =
     let size = c .so-many .ensures .0 in (
       rw size (simp length-set (omega (arith, c .before .before .before .before .before .before .before .before .before .loop-test .taken))),
-      λ e. rw (c .so-many .ensures .0) (rw sub-zero at (c .before .before .is-enough .ensures (c .before .if2 .taken))),
+      λ e. rw (c .so-many .ensures .0) (rw sub-zero at (enough-final _ (sym (c .before .before .is-enough .ensures) ∙ c .before .if2 .taken))),
     )
 
 returns-3 : tie.Need-returns-3 Inv-loop μ-loop

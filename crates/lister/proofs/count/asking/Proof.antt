@@ -7,7 +7,7 @@ use native.Mathlib.Omega.{arith}
 use borrow.Author.Needs.{needs}
 use denote.Ref.{now}
 use Rattle.rule.specs.Diagram.{asking}
-use Rattle.lister.proofs.Counts.{asked-none, asked-le, asked-more, asked-other}
+use Rattle.lister.proofs.Counts.{asked-none, asked-more, asked-other}
 use Rattle.lister.proofs.count.asking.Statement.{statement}
 use Rattle.lister.proofs.count.asking.Tie as tie
 

@@ -4,11 +4,10 @@ use mathlib.Core.Path.{_≡_, refl}
 use Prim.Native.Nat.{_+_, _*_, _-_, _≤_}
 use native.Mathlib.Omega.{arith}
 use borrow.Author.Needs.{needs}
-use denote.Ref.{now}
 use lib.ListN.{length, take}
 use Rattle.rule.specs.Listing.{numbers}
 use Rattle.runs.specs.Run.{Puts}
-use Rattle.runs.proofs.Puts.{puts-none, puts-length}
+use Rattle.runs.proofs.Puts.{puts-none}
 use Rattle.runs.proofs.Digits.{number-le}
 use Rattle.arguments.proofs.Times.{ten}
 use Rattle.lister.proofs.Printed.{puts-place}

@@ -1,7 +1,7 @@
 -- `parsing::line::flags_of` meets its contract: none of the powers passed is the number of rows.
 -- Assumes nothing.
-use mathlib.Core.Path.{_≡_, refl, _∙_, sym}
-use Prim.Native.Nat.{_-_, _≤_}
+use mathlib.Core.Path.{refl, _∙_, sym}
+use Prim.Native.Nat.{_-_}
 use native.Mathlib.Omega.{arith}
 use borrow.Author.Needs.{needs}
 use Rattle.parsing.proofs.FirstLine.{Passed, flags-found, flags-passed, flags-none}
