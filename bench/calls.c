@@ -1,6 +1,7 @@
 // The calls on single diagrams: those of the older commit beside this one's, and the walk beside the same in plain C.
 #include "drawing.h"
 #include "engine.h"
+#include "older/older.h"
 #include "measure.h"
 #include "plain.h"
 

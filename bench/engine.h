@@ -1,21 +1,15 @@
-// The calls of crates/exports as C sees them, of this commit and, with old_ before the name, of the older one that bench/run builds beside it.
-// A slice is a pointer and the number of its elements, an order its ten bytes.
+// The calls of crates/exports as C sees them. A slice is a pointer and the number of its elements, an order its ten bytes.
 #ifndef ENGINE_H
 #define ENGINE_H
 
 #include <stddef.h>
 #include <stdint.h>
 
-#define DIAGRAM_CALLS(prefix)                                                                                                          \
-    uint64_t prefix##engine_build(uint8_t n, const uint8_t *table, size_t rows, const uint8_t *order, uint16_t *cells, size_t length); \
-    uint64_t prefix##engine_check(uint8_t n, const uint8_t *order, const uint16_t *cells, size_t length, uint16_t used, uint16_t root); \
-    uint64_t prefix##engine_walk(uint8_t n, const uint8_t *order, const uint16_t *cells, size_t length, uint16_t used, uint16_t node,  \
-                                 uint16_t row);                                                                                        \
-    uint64_t prefix##engine_tabulate(uint8_t n, const uint8_t *order, const uint16_t *cells, size_t length, uint16_t used,             \
-                                     uint16_t node, uint8_t *bytes, size_t rows);
-
-DIAGRAM_CALLS()
-DIAGRAM_CALLS(old_)
+uint64_t engine_build(uint8_t n, const uint8_t *table, size_t rows, const uint8_t *order, uint16_t *cells, size_t length);
+uint64_t engine_check(uint8_t n, const uint8_t *order, const uint16_t *cells, size_t length, uint16_t used, uint16_t root);
+uint64_t engine_walk(uint8_t n, const uint8_t *order, const uint16_t *cells, size_t length, uint16_t used, uint16_t node, uint16_t row);
+uint64_t engine_tabulate(uint8_t n, const uint8_t *order, const uint16_t *cells, size_t length, uint16_t used, uint16_t node, uint8_t *bytes,
+                         size_t rows);
 
 // The store's join: used records, then the node. It is weak while crates/exports has none: the programs that measure it test whether it is there.
 uint64_t engine_join(uint8_t n, const uint8_t *order, uint16_t *cells, size_t length, uint16_t used, uint8_t code, uint16_t first,
