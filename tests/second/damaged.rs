@@ -4,7 +4,7 @@
 use crate::file_edges::{edges, given, reads};
 use crate::file_lines::{answer, play, say_write};
 use crate::files::{bytes_of, read, records_of, write, Filed};
-use crate::{collapse, recast, table_from, Dice, CELLS};
+use crate::{collapse, recast, table_from, Dice, CELLS, WIDTH};
 use std::collections::BTreeSet;
 
 /// The test program reads its input in one piece, of fewer bytes than these.
@@ -55,9 +55,9 @@ fn goods(dice: &mut Dice) -> Vec<(usize, Filed)> {
 /// A file with each byte changed, cut at each length and with one byte appended, into cells that
 /// hold its records exactly, into more of them, and into those for one record fewer.
 fn damaged(map: usize, filed: &Filed) -> Vec<String> {
-    let (file, exact) = (bytes_of(map, filed), 3 * filed.records.len());
+    let (file, exact) = (bytes_of(map, filed), WIDTH * filed.records.len());
     assert_eq!(read(&file, exact).as_ref(), Ok(filed));
-    let mut lines = reads(&file, &[exact, exact + 1, exact + 3, CELLS]);
+    let mut lines = reads(&file, &[exact, exact + 1, exact + WIDTH, CELLS]);
     let mut say = |cells: usize, changes: &[&str]| {
         let call = |change: &&str| change.replace('%', &cells.to_string());
         lines.extend(changes.iter().map(call));
@@ -65,14 +65,14 @@ fn damaged(map: usize, filed: &Filed) -> Vec<String> {
     say(exact, &["e % 1", "e % 255", "e % 128", "e % 32", "s % 0", "s % 255", "c %", "a % 0"]);
     say(CELLS, &["e % 1", "e % 255", "e % 2", "s % 1", "s % 127", "c %", "a % 255"]);
     if exact > 0 {
-        say(exact - 3, &["r %", "e % 1", "s % 0", "c %", "a % 65"]);
+        say(exact - WIDTH, &["r %", "e % 1", "s % 0", "c %", "a % 65"]);
     }
     lines
 }
 
 /// Each value of each byte of a file, up to a place.
 fn all_values(map: usize, filed: &Filed, most: usize) -> Vec<String> {
-    let (file, cells) = (bytes_of(map, filed), 3 * filed.records.len());
+    let (file, cells) = (bytes_of(map, filed), WIDTH * filed.records.len());
     let places = 0..file.len().min(most);
     let each = places.map(|place| format!("v {cells} {place}"));
     reads(&file, &[]).into_iter().chain(each).collect()
@@ -94,19 +94,19 @@ fn largest(dice: &mut Dice) -> Filed {
 /// A random rule of n flags.
 fn any(dice: &mut Dice, n: usize) -> Filed {
     let (order, label) = (dice.order(n), dice.label());
-    dice.filed(order, &label, 0, CELLS / 3)
+    dice.filed(order, &label, 0, CELLS / WIDTH)
 }
 
 /// A rule that is written, read back, read into cells for one record fewer, and written into one
 /// byte fewer.
 fn back(dice: &mut Dice, filed: &Filed) -> Vec<String> {
-    let (given, exact) = (given(filed), 3 * filed.records.len());
+    let (given, exact) = (given(filed), WIDTH * filed.records.len());
     let file = write(&given, usize::MAX).expect("a diagram");
     assert_eq!(read(&file, exact).as_ref(), Ok(filed));
     let bytes = file.len() + dice.below(3);
     let mut lines = vec![say_write(&given, bytes), format!("r {exact}")];
     if exact > 0 {
-        lines.push(format!("r {}", exact - 3));
+        lines.push(format!("r {}", exact - WIDTH));
     }
     lines.extend(Some(say_write(&given, file.len() - 1)).filter(|_| dice.one_in(4)));
     lines
@@ -136,7 +136,7 @@ fn random(dice: &mut Dice) -> Vec<String> {
         }
     }
     let room = filed.records.len() + dice.below(3);
-    reads(&file, &[3 * room.saturating_sub(1)])
+    reads(&file, &[WIDTH * room.saturating_sub(1)])
 }
 
 /// The reader and the writer meet every refusal that they test, and no other.
@@ -156,11 +156,11 @@ fn cover(lines: &[String]) {
 pub fn vectors() -> (String, String) {
     let mut dice = Dice(0x0B5E_55ED_CAFE_0009);
     let goods = goods(&mut dice);
-    let [one, three] = [&goods[2], &goods[3]];
-    let mut lines = edges(&three.1);
+    let [one, longer] = [&goods[2], &goods[3]];
+    let mut lines = edges(&longer.1);
     goods.iter().for_each(|(map, filed)| lines.extend(damaged(*map, filed)));
     lines.extend(all_values(one.0, &one.1, usize::MAX));
-    lines.extend(all_values(three.0, &three.1, 10));
+    lines.extend(all_values(longer.0, &longer.1, 10));
     let mut rules: Vec<Filed> = (0..42).map(|i| any(&mut dice, i % 7)).collect();
     rules.extend([any(&mut dice, 8), largest(&mut dice)]);
     rules.iter().for_each(|filed| lines.extend(back(&mut dice, filed)));

@@ -3,15 +3,15 @@
 
 use crate::file_lines::{hex, say_write, WORKED};
 use crate::files::{are_sound, bytes_of, write, Filed, Given, Record};
-use crate::{numbers, CELLS};
+use crate::{numbers, sized, CELLS, WIDTH};
 
 /// Files, and the numbers of cells that they are read into.
 const FILES: &[(&str, &[usize])] = &[
     // The cells: the settled file, and 5 ahead of whatever a file has.
-    ("0b010001000000000100", &[0, 1, 2, 3, 4, 5, 6, 3069, 3071, 3072, 3073, 3074, 3075]),
-    ("10", &[0, 1, 3, 3072, 3075]),
-    ("-", &[0, 1, 4]),
-    ("ff", &[0, 4, 3075]),
+    ("0b010001000000000100", &[0, 1, 2, WIDTH, WIDTH + 1, 2 * WIDTH - 1, 2 * WIDTH, CELLS - WIDTH, CELLS - 1, CELLS, CELLS + 1, CELLS + 2, CELLS + WIDTH]),
+    ("10", &[0, 1, WIDTH, CELLS, CELLS + WIDTH]),
+    ("-", &[0, 1, WIDTH + 1]),
+    ("ff", &[0, WIDTH + 1, CELLS + WIDTH]),
     // The map: bits 5, 6 and 7, and bits 3 and 4, ahead of the fields that they call for.
     ("00", &[0]),
     ("1f", &[0]),
@@ -21,9 +21,9 @@ const FILES: &[(&str, &[usize])] = &[
     ("e0", &[0]),
     ("18", &[0]),
     ("3800", &[0]),
-    ("1b010001000000000100", &[3]),
-    ("2b010001000000000100", &[3]),
-    ("8b010001000000000100", &[3]),
+    ("1b010001000000000100", &[WIDTH]),
+    ("2b010001000000000100", &[WIDTH]),
+    ("8b010001000000000100", &[WIDTH]),
     // The flag count, and what it is ahead of.
     ("01", &[0]),
     ("010a", &[0]),
@@ -82,25 +82,25 @@ const FILES: &[(&str, &[usize])] = &[
     ("0c0141", &[0]),
     ("0c00", &[0]),
     // The record count: 6, then 10, then 11 for the records; its low byte stands first.
-    ("08", &[0, 3]),
-    ("0801", &[0, 3]),
-    ("0800", &[0, 3]),
-    ("080000", &[0, 3]),
-    ("08000041", &[0, 3]),
-    ("080100", &[0, 3]),
-    ("080200", &[3, 6]),
-    ("080001", &[765, 768]),
-    ("08ff03", &[3066, 3069]),
-    ("080004", &[3069, 3072]),
-    ("080104", &[3072]),
-    ("080008", &[3072]),
-    ("08ffff", &[0, 3072]),
+    ("08", &[0, WIDTH]),
+    ("0801", &[0, WIDTH]),
+    ("0800", &[0, WIDTH]),
+    ("080000", &[0, WIDTH]),
+    ("08000041", &[0, WIDTH]),
+    ("080100", &[0, WIDTH]),
+    ("080200", &[WIDTH, 2 * WIDTH]),
+    ("080001", &[255 * WIDTH, 256 * WIDTH]),
+    ("08ff03", &[CELLS - 2 * WIDTH, CELLS - WIDTH]),
+    ("080004", &[CELLS - WIDTH, CELLS]),
+    ("080104", &[CELLS]),
+    ("080008", &[CELLS]),
+    ("08ffff", &[0, CELLS]),
     // Bytes left over, ahead of what the records are.
-    ("0b01000100000000010041", &[0, 3, 4]),
-    ("0b01000100000000000041", &[3]),
-    ("0b010001000000000000", &[3]),
-    ("0b01000100010000010041", &[3]),
-    ("0b010001000100000100", &[3]),
+    ("0b01000100000000010041", &[0, WIDTH, WIDTH + 1]),
+    ("0b01000100000000000041", &[WIDTH]),
+    ("0b010001000000000000", &[WIDTH]),
+    ("0b01000100010000010041", &[WIDTH]),
+    ("0b010001000100000100", &[WIDTH]),
 ];
 
 /// Records under an order: diagrams, and such as differ from one in a single point.
@@ -157,7 +157,8 @@ const RECORDS: &[(&str, &[Record])] = &[
     ("210", &[[1, 0, 1], [0, 2, 1], [2, 2, 3]]),
 ];
 
-/// What the writer is given: N ORDER USED ROOT BYTES LABEL CELLS CELL CELL ..
+/// What the writer is given: N ORDER USED ROOT BYTES LABEL CELLS CELL CELL .., with the words of
+/// `sized` for the number of cells.
 const WRITES: &[&str] = &[
     // The flag count and the order.
     "10 00010203040506070809 0 1 12 - 0",
@@ -181,43 +182,43 @@ const WRITES: &[&str] = &[
     "3 02000100000000000009 0 1 5 - 0",
     // The cells.
     "0 - 0 1 2 - 1",
-    "0 - 0 1 2 - 3",
-    "0 - 0 1 2 - 3072",
-    "0 - 0 1 2 - 3073",
-    "0 - 0 1 2 - 3075",
+    "0 - 0 1 2 - 1r",
+    "0 - 0 1 2 - all",
+    "0 - 0 1 2 - all+1",
+    "0 - 0 1 2 - all+1r",
     "1 00 1 2 10 - 2 0 0",
-    "1 00 1 2 10 - 3 0 0 1",
-    "1 00 1 2 10 - 4 0 0 1",
-    "1 00 1 2 10 - 6 0 0 1",
-    "1 00 1 2 10 - 3072 0 0 1",
-    "1 00 1 2 10 - 3074 0 0 1",
-    "1 00 1 2 10 - 3075 0 0 1",
+    "1 00 1 2 10 - 1r 0 0 1",
+    "1 00 1 2 10 - 1r+1 0 0 1",
+    "1 00 1 2 10 - 2r 0 0 1",
+    "1 00 1 2 10 - all 0 0 1",
+    "1 00 1 2 10 - all+2 0 0 1",
+    "1 00 1 2 10 - all+1r 0 0 1",
     // More used than the cells hold, and cells past the used records.
     "1 00 1 2 10 - 0",
-    "1 00 2 3 15 - 3 0 0 1",
-    "1 00 2 3 15 - 6 0 0 1",
-    "1 00 65535 2 10 - 3 0 0 1",
-    "1 00 65535 65535 10 - 3072 0 0 1",
-    "1 00 0 0 3 - 3 0 0 1",
-    "1 00 0 0 3 - 3 0 0 0",
-    "1 00 1 2 10 - 6 0 0 1 1",
-    "1 00 1 2 10 - 6 0 0 1 0 1",
-    "1 00 1 2 10 - 6 0 0 1 0 0 1",
-    "1 00 1 2 10 - 6 0 0 1 0 1 0",
-    "2 0001 1 2 11 - 6 1 0 1 0 0 2",
-    "2 0001 2 3 16 - 6 1 0 1 0 0 2",
-    "2 0001 2 3 16 - 9 1 0 1 0 0 2 0 0 65535",
+    "1 00 2 3 15 - 1r 0 0 1",
+    "1 00 2 3 15 - 2r 0 0 1",
+    "1 00 65535 2 10 - 1r 0 0 1",
+    "1 00 65535 65535 10 - all 0 0 1",
+    "1 00 0 0 3 - 1r 0 0 1",
+    "1 00 0 0 3 - 1r 0 0 0",
+    "1 00 1 2 10 - 2r 0 0 1 1",
+    "1 00 1 2 10 - 2r 0 0 1 0 1",
+    "1 00 1 2 10 - 2r 0 0 1 0 0 1",
+    "1 00 1 2 10 - 2r 0 0 1 0 1 0",
+    "2 0001 1 2 11 - 2r 1 0 1 0 0 2",
+    "2 0001 2 3 16 - 2r 1 0 1 0 0 2",
+    "2 0001 2 3 16 - 3r 1 0 1 0 0 2 0 0 65535",
     // The root: every record is reached, or it is no node.
     "0 - 0 2 2 - 0",
     "0 - 0 65535 2 - 0",
-    "1 00 1 0 10 - 3 0 0 1",
-    "1 00 1 1 10 - 3 0 0 1",
-    "1 00 1 3 10 - 3 0 0 1",
-    "1 00 1 65535 10 - 3 0 0 1",
-    "2 0001 2 2 16 - 6 1 0 1 0 0 2",
-    "2 0001 2 4 16 - 6 1 0 1 0 0 2",
-    "2 0001 2 3 16 - 6 1 0 1 0 0 1",
-    "2 0001 2 4 16 - 6 1 0 1 0 0 1",
+    "1 00 1 0 10 - 1r 0 0 1",
+    "1 00 1 1 10 - 1r 0 0 1",
+    "1 00 1 3 10 - 1r 0 0 1",
+    "1 00 1 65535 10 - 1r 0 0 1",
+    "2 0001 2 2 16 - 2r 1 0 1 0 0 2",
+    "2 0001 2 4 16 - 2r 1 0 1 0 0 2",
+    "2 0001 2 3 16 - 2r 1 0 1 0 0 1",
+    "2 0001 2 4 16 - 2r 1 0 1 0 0 1",
     // The label's bytes.
     "0 - 0 0 4 1f 0",
     "0 - 0 0 4 20 0",
@@ -236,11 +237,11 @@ const WRITES: &[&str] = &[
     "0 - 0 0 3 - 0",
     "0 - 0 1 5 20417e 0",
     "0 - 0 1 9 20417e 0",
-    "1 00 1 2 9 - 3 0 0 1",
-    "1 00 1 2 0 - 3 0 0 1",
-    "1 00 1 2 15 - 3 0 0 1",
-    "1 00 1 2 11 41 3 0 0 1",
-    "1 00 1 2 12 41 3 0 0 1",
+    "1 00 1 2 9 - 1r 0 0 1",
+    "1 00 1 2 0 - 1r 0 0 1",
+    "1 00 1 2 15 - 1r 0 0 1",
+    "1 00 1 2 11 41 1r 0 0 1",
+    "1 00 1 2 12 41 1r 0 0 1",
 ];
 
 /// What may be wrong with a file of three flags that has a label of two bytes and records, or with
@@ -254,7 +255,7 @@ const FILE_FAULTS: &[fn(&mut Vec<u8>, &mut usize)] = &[
     |file, _| file[5] = 0,
     |file, _| file[6] = 0x1F,
     |file, _| file[8] = 0,
-    |file, cells| file[8] = (*cells / 3 + 1) as u8,
+    |file, cells| file[8] = (*cells / WIDTH + 1) as u8,
     |file, _| file[11] = file[13], // low is high, both below 256
     |file, _| file.push(0),
     |file, _| file.truncate(file.len() - 1),
@@ -291,7 +292,7 @@ pub fn given(filed: &Filed) -> Given {
 /// Every map of bits 0 to 4, each field that it calls for being fit for one flag.
 fn maps() -> Vec<String> {
     let filed = Filed { order: vec![0], label: b"A".to_vec(), records: vec![[0, 1, 0]], root: 2 };
-    (0..32).flat_map(|map| reads(&bytes_of(map, &filed), &[3])).collect()
+    (0..32).flat_map(|map| reads(&bytes_of(map, &filed), &[WIDTH])).collect()
 }
 
 /// Labels of up to 256 bytes: in a file of 255, one fewer and one more than its length says.
@@ -315,7 +316,7 @@ fn records() -> Vec<String> {
         let root = records.len() + 1;
         let filed = Filed { order: numbers(order), label: vec![], records: records.to_vec(), root };
         if records.iter().all(|record| record[0] < 256) {
-            lines.extend(reads(&bytes_of(0b1011, &filed), &[3 * records.len()]));
+            lines.extend(reads(&bytes_of(0b1011, &filed), &[WIDTH * records.len()]));
         }
         lines.push(say_write(&given(&filed), 64));
     }
@@ -332,14 +333,14 @@ fn most() -> Vec<String> {
         let nodes = records.len() + 2;
         let pairs = (0..nodes * nodes).map(|pair| [flag, pair / nodes, pair % nodes]);
         records.extend(pairs.filter(|record| record[1] != record[2]));
-        records.truncate(CELLS / 3);
+        records.truncate(CELLS / WIDTH);
     }
-    assert!(are_sound(&records, &order) && records.len() == CELLS / 3);
-    let filed = Filed { order, label: vec![], records, root: CELLS / 3 + 1 };
-    let mut lines = reads(&bytes_of(0b1001, &filed), &[CELLS - 3, CELLS]);
+    assert!(are_sound(&records, &order) && records.len() == CELLS / WIDTH);
+    let filed = Filed { order, label: vec![], records, root: CELLS / WIDTH + 1 };
+    let mut lines = reads(&bytes_of(0b1001, &filed), &[CELLS - WIDTH, CELLS]);
     let mut given = given(&filed);
     lines.push(say_write(&given, CELLS));
-    given.cells[3..CELLS - 1].fill(0);
+    given.cells[WIDTH..CELLS - 1].fill(0);
     (given.used, given.root) = (1, 2);
     lines.push(say_write(&given, CELLS));
     lines
@@ -355,7 +356,7 @@ fn pairs(count: usize) -> Vec<Vec<usize>> {
 fn file_faults(filed: &Filed) -> Vec<String> {
     let mut lines = Vec::new();
     for pair in pairs(FILE_FAULTS.len()) {
-        let (mut file, mut cells) = (bytes_of(0b1111, filed), 3 * filed.records.len());
+        let (mut file, mut cells) = (bytes_of(0b1111, filed), WIDTH * filed.records.len());
         pair.iter().for_each(|&at| FILE_FAULTS[at](&mut file, &mut cells));
         lines.extend(reads(&file, &[cells]));
         lines.extend(Some(format!("c {cells}")).filter(|_| pair.len() == 1));
@@ -376,7 +377,7 @@ fn write_faults(filed: &Filed) -> Vec<String> {
 
 /// All of these; the faults are those of a rule of three flags with a label of two bytes.
 pub fn edges(filed: &Filed) -> Vec<String> {
-    let worked = WORKED.iter().flat_map(|(input, _)| input.split(';').map(str::to_string));
+    let worked = WORKED.iter().flat_map(|(input, _)| input.split(';').map(sized));
     let mut lines: Vec<String> = worked.collect();
     lines.extend(maps());
     for (file, cells) in FILES {
@@ -385,7 +386,7 @@ pub fn edges(filed: &Filed) -> Vec<String> {
     }
     lines.extend(labels());
     lines.extend(records());
-    lines.extend(WRITES.iter().map(|line| format!("w {line}")));
+    lines.extend(WRITES.iter().map(|line| format!("w {}", sized(line))));
     lines.extend(file_faults(filed));
     lines.extend(write_faults(filed));
     lines.extend(most());

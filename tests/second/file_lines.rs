@@ -26,14 +26,15 @@
 //! zeros and empty and the cells are as lent; of a refused write that the bytes are.
 
 use crate::files::{read, write, Filed, Given};
-use crate::{digits, or_refused, phrase};
+use crate::{digits, or_refused, phrase, sized};
 
-/// Input and what is printed for it, the lines parted by `;`.
+/// Input, with the words of `sized` for numbers of cells, and what is printed for it, the lines
+/// parted by `;`.
 pub const WORKED: &[(&str, &str)] = &[
     // The paper's settled files. The first: bits 0, 1 and 3; n 1; flag 0 asked first; one record,
     // which asks flag 0 and goes to node 0 and node 1.
     (
-        "f 0b010001000000000100;r 3;r 6;r 3072;r 0;r 4;r 3075",
+        "f 0b010001000000000100;r 1r;r 2r;r all;r 0;r 1r+1;r all+1r",
         "n 1 order 0000000000 records 1 root 2 label - cells 0 0 1 rest 0;\
          n 1 order 0000000000 records 1 root 2 label - cells 0 0 1 rest 0;\
          n 1 order 0000000000 records 1 root 2 label - cells 0 0 1 rest 0;\
@@ -46,18 +47,18 @@ pub const WORKED: &[(&str, &str)] = &[
     ),
     // The writer gives the first two back; `10` it writes with bits 0 and 1.
     (
-        "w 1 00 1 2 10 - 3 0 0 1;r 3;w 0 - 0 1 3 - 0;w 0 - 0 1 1 - 0;r 0",
+        "w 1 00 1 2 10 - 1r 0 0 1;r 1r;w 0 - 0 1 3 - 0;w 0 - 0 1 1 - 0;r 0",
         "bytes 10 0b010001000000000100 rest kept;\
          n 1 order 0000000000 records 1 root 2 label - cells 0 0 1 rest 0;\
          bytes 2 1300 rest kept;refused 10 kept;refused 11 kept",
     ),
     // Flag 0 and flag 1, flag 1 asked first, with a label; then each of the writer's refusals.
     (
-        "w 2 0100 2 3 20 417e 6 0 0 1 1 0 2;r 6;r 3;w 11 0100 2 3 19 417e 6 0 0 1 1 0 2;\
-         w 2 0101 2 3 19 417e 6 0 0 1 1 0 2;w 2 0100 2 3 19 417e 7 0 0 1 1 0 2;\
-         w 2 0100 2 2 19 417e 6 0 0 1 1 0 2;w 2 0001 2 3 19 417e 6 0 0 1 1 0 2;\
-         w 2 0100 2 4 19 417e 6 0 0 1 1 0 2;w 2 0100 2 3 19 417f 6 0 0 1 1 0 2;\
-         w 2 0100 2 3 18 417e 6 0 0 1 1 0 2",
+        "w 2 0100 2 3 20 417e 2r 0 0 1 1 0 2;r 2r;r 1r;w 11 0100 2 3 19 417e 2r 0 0 1 1 0 2;\
+         w 2 0101 2 3 19 417e 2r 0 0 1 1 0 2;w 2 0100 2 3 19 417e 2r+1 0 0 1 1 0 2;\
+         w 2 0100 2 2 19 417e 2r 0 0 1 1 0 2;w 2 0001 2 3 19 417e 2r 0 0 1 1 0 2;\
+         w 2 0100 2 4 19 417e 2r 0 0 1 1 0 2;w 2 0100 2 3 19 417f 2r 0 0 1 1 0 2;\
+         w 2 0100 2 3 18 417e 2r 0 0 1 1 0 2",
         "bytes 19 0f02010002417e020000000001000100000200 rest kept;\
          n 2 order 1000000000 records 2 root 3 label 417e cells 0 0 1 1 0 2 rest 0;\
          refused 10 kept;refused 1 kept;refused 4 kept;refused 5 kept;refused 6 kept;\
@@ -65,7 +66,7 @@ pub const WORKED: &[(&str, &str)] = &[
     ),
     // Fields left out, a label, and what is cut off or too much: `00` has no field at all.
     (
-        "f 00;r 0;a 0 65;f 050202417e;r 3;c 3;a 3 0",
+        "f 00;r 0;a 0 65;f 050202417e;r 1r;c 1r;a 1r 0",
         "n 0 order 0000000000 records 0 root 0 label - cells rest 0;refused 11 kept;\
          n 2 order 0100000000 records 0 root 0 label 417e cells rest 0;\
          refused 11 kept;refused 11 kept;refused 11 kept;refused 11 kept;refused 11 kept;\
@@ -186,7 +187,7 @@ pub fn play(input: &str) -> String {
 
 /// What doesn't agree.
 pub fn faults() -> Vec<String> {
-    let found = |input: &str| play(&input.replace(';', "\n")).trim_end().replace('\n', ";");
+    let found = |input: &str| play(&sized(input).replace(';', "\n")).trim_end().replace('\n', ";");
     let differ = WORKED.iter().filter(|(input, expected)| found(input) != *expected);
     differ
         .map(|(input, expected)| format!("{input}: expected {expected}, found {}", found(input)))

@@ -1,7 +1,7 @@
 //! Rule files, read and written by the paper's words. The reader is lent a number of cells, the
 //! writer what stands in them and a number of bytes.
 
-use crate::{is_order, refuse, Diagram, Node, CELLS};
+use crate::{are_unfit, is_order, refuse, Diagram, Node, WIDTH};
 use std::collections::BTreeSet;
 
 /// The flag asked, the low node and the high node.
@@ -69,11 +69,6 @@ fn are_reached(records: &[Record], root: usize) -> bool {
     met.len() == records.len()
 }
 
-/// "length no multiple of 3, or above 3,072"
-fn are_unfit(cells: usize) -> bool {
-    cells % 3 != 0 || cells > CELLS
-}
-
 fn is_unprinted(byte: &u8) -> bool {
     !(0x20..=0x7E).contains(byte)
 }
@@ -112,7 +107,7 @@ pub fn read(file: &[u8], cells: usize) -> Result<Filed, usize> {
     if stands(3) {
         let two = |bytes: &[u8]| usize::from(bytes[0]) + 256 * usize::from(bytes[1]);
         let count = two(take(rest, 2)?);
-        refuse(&[(6, count == 0), (10, count > cells / 3)])?;
+        refuse(&[(6, count == 0), (10, count > cells / WIDTH)])?;
         let record = |bytes: &[u8]| [usize::from(bytes[0]), two(&bytes[1..]), two(&bytes[3..])];
         records = take(rest, 5 * count)?.chunks(5).map(record).collect();
     }
@@ -145,10 +140,10 @@ pub fn write(given: &Given, bytes: usize) -> Result<Vec<u8>, usize> {
     refuse(&[(1, *n > 10), (4, !is_order(order, *n)), (5, are_unfit(cells.len()))])?;
     let order = order[..*n].to_vec();
     // "not sound, or more used than the cells hold"; "every cell past the used records is 0"
-    refuse(&[(6, 3 * used > cells.len())])?;
-    let (within, past) = cells.split_at(3 * used);
+    refuse(&[(6, WIDTH * used > cells.len())])?;
+    let (within, past) = cells.split_at(WIDTH * used);
     let records: Vec<Record> =
-        within.chunks(3).map(|cells| [cells[0], cells[1], cells[2]]).collect();
+        within.chunks(WIDTH).map(|cells| [cells[0], cells[1], cells[2]]).collect();
     refuse(&[(6, !are_sound(&records, &order) || past.iter().any(|&cell| cell != 0))])?;
     // "for a diagram with a root up to used records + 1, a record out of reach"
     let is_node = *root <= used + 1;

@@ -3,7 +3,7 @@
 
 use crate::play::play;
 use crate::scribe::{kinds, Scribe, CALLS};
-use crate::Dice;
+use crate::{Dice, CELLS, WIDTH};
 use std::collections::{BTreeMap, BTreeSet};
 
 /// The test program reads its input in one piece, of fewer bytes than these.
@@ -63,24 +63,24 @@ const STATES: &[&str] = &[
 /// a call then stands high in the table, and often two rows do at once.
 const UNFIT: &[(usize, &[&str])] = &[
     (0, &[]),
-    (3, &[]),
-    (15, &[]),
-    (3072, &[]),
+    (WIDTH, &[]),
+    (5 * WIDTH, &[]),
+    (CELLS, &[]),
     (1, &[]),
-    (3073, &[]),
-    (3075, &[]),
-    (4, &["3 012 0"]),
-    (3075, &["2 10 7"]),
+    (CELLS + 1, &[]),
+    (CELLS + WIDTH, &[]),
+    (WIDTH + 1, &["3 012 0"]),
+    (CELLS + WIDTH, &["2 10 7"]),
     (2, &["3 011 0"]),
-    (3074, &["2 012 65535"]),
-    (4, &["11 01 3"]),
-    (15, &["3 011 2"]),
-    (3072, &["0 1 0"]),
-    (3, &["12 - 0"]),
-    (15, &["2 01 9", "3 011 4"]),
-    (30, &["3 210 0", "2 012 0"]),
-    (12, &["2 10 1", "11 10 2"]),
-    (3072, &["2 10 1", "255 10 65535"]),
+    (CELLS + 2, &["2 012 65535"]),
+    (WIDTH + 1, &["11 01 3"]),
+    (5 * WIDTH, &["3 011 2"]),
+    (CELLS, &["0 1 0"]),
+    (WIDTH, &["12 - 0"]),
+    (5 * WIDTH, &["2 01 9", "3 011 4"]),
+    (10 * WIDTH, &["3 210 0", "2 012 0"]),
+    (4 * WIDTH, &["2 10 1", "11 10 2"]),
+    (CELLS, &["2 10 1", "255 10 65535"]),
     (0, &["0 - 5", "0 1 5"]),
 ];
 
@@ -133,7 +133,7 @@ fn unopened(dice: &mut Dice, cells: usize, states: &[&str]) -> Vec<String> {
 
 /// Each argument of these calls at each of its edges, the others fit; then all unfit at once.
 fn at_edges(dice: &mut Dice, n: usize, letters: &str) -> Vec<String> {
-    let mut list = Scribe::new(dice, crate::CELLS);
+    let mut list = Scribe::new(dice, CELLS);
     let state = list.dice.fit_state(n);
     list.say_open(&state);
     (0..n).step_by(3).for_each(|i| drop(list.say(&format!("f {i}"))));
@@ -159,7 +159,7 @@ fn begin(list: &mut Scribe, n: usize) {
 /// adds a record.
 fn random_steps(dice: &mut Dice, n: usize) -> Vec<String> {
     let most = 3 + dice.below(8 * n);
-    let mut list = Scribe::new(dice, crate::CELLS);
+    let mut list = Scribe::new(dice, CELLS);
     begin(&mut list, n);
     let mut steps = list.calls();
     while list.used() < most && list.calls() < 24 {
@@ -194,7 +194,7 @@ fn ask_full(list: &mut Scribe) {
 
 /// The steps in cells for so many records, and what is asked then; with the last step's answer.
 fn filled(dice: &mut Dice, steps: &[String], room: usize) -> (String, Vec<String>) {
-    let mut list = Scribe::new(dice, 3 * room);
+    let mut list = Scribe::new(dice, WIDTH * room);
     let answers: Vec<String> = steps.iter().map(|step| list.say(step)).collect();
     ask_full(&mut list);
     (answers.last().expect("a step").clone(), list.end())
@@ -202,7 +202,7 @@ fn filled(dice: &mut Dice, steps: &[String], room: usize) -> (String, Vec<String
 
 /// The steps in cells that are exactly enough, and in cells for one record fewer.
 fn pair(dice: &mut Dice, steps: &[String]) -> [Vec<String>; 2] {
-    let mut list = Scribe::new(dice, crate::CELLS);
+    let mut list = Scribe::new(dice, CELLS);
     steps.iter().for_each(|step| drop(list.say(step)));
     let needed = list.used();
     let (enough, full) = filled(dice, steps, needed);
@@ -215,12 +215,12 @@ fn pair(dice: &mut Dice, steps: &[String]) -> [Vec<String>; 2] {
 /// Ten flags in all the cells that may be lent, filled as far as the calls reach. The opposites of
 /// flags, a record each, come last.
 fn large(dice: &mut Dice) -> Vec<String> {
-    let mut list = Scribe::new(dice, crate::CELLS);
+    let mut list = Scribe::new(dice, CELLS);
     let (state, flags) = (list.dice.fit_state(10), list.dice.order(10));
     list.say_open(&state);
     flags.iter().for_each(|i| drop(list.say(&format!("f {i}"))));
     while list.calls() < 34 {
-        list.grow(24, crate::CELLS / 3 - list.used());
+        list.grow(24, CELLS / WIDTH - list.used());
     }
     let opposites = (1..=10).map(|call| format!("j 12 @{call} 0"));
     let lacking: Vec<String> = opposites.filter(|line| list.session.needed(line) > 0).collect();
@@ -264,7 +264,7 @@ fn random(dice: &mut Dice) -> Vec<String> {
     };
     let odd = if dice.one_in(25) { 1 + dice.below(2) } else { 0 };
     let calls = if odd > 0 { 12 } else { 9 + dice.below(30).min(dice.below(30)) };
-    let mut list = Scribe::new(dice, 3 * room + odd);
+    let mut list = Scribe::new(dice, WIDTH * room + odd);
     if list.dice.one_in(8) {
         (0..2).for_each(|_| list.say_any("kfjcxtw"));
     }
@@ -279,7 +279,7 @@ fn random(dice: &mut Dice) -> Vec<String> {
 /// All lists of the vectors.
 fn lists(dice: &mut Dice) -> Vec<Vec<String>> {
     let mut lists = Vec::new();
-    for cells in [0, 3072] {
+    for cells in [0, CELLS] {
         lists.extend(STATES.chunks(17).map(|states| opens(dice, cells, states)));
     }
     lists.extend(UNFIT.iter().map(|(cells, states)| unopened(dice, *cells, states)));

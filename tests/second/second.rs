@@ -21,8 +21,35 @@ mod worked;
 use std::collections::HashSet;
 use std::io::Read;
 
-/// The most cells that may be lent; a record takes three.
-const CELLS: usize = 3072;
+/// The cells of a record, and the most that may be lent: those of 1,024 records.
+const WIDTH: usize = 3;
+const CELLS: usize = 1024 * WIDTH;
+
+/// What refusal 5 tests: "length no multiple of 3, or above 3,072".
+fn are_unfit(cells: usize) -> bool {
+    cells % WIDTH != 0 || cells > CELLS
+}
+
+/// Text in which each word for a number of cells is that number: `2r` are those of two records,
+/// `all` the most that may be lent, `all+1r` one record more, `2r+1` one cell more.
+fn sized(text: &str) -> String {
+    let term = |term: &str| match (term, term.strip_suffix('r')) {
+        ("all", _) => Some(CELLS),
+        (_, Some(records)) => Some(records.parse::<usize>().ok()? * WIDTH),
+        _ => term.parse().ok(),
+    };
+    let word = |word: &str| {
+        let cells = word.split('+').map(term).sum::<Option<usize>>();
+        let is_sized = word.starts_with("all") || word.contains('r');
+        cells.filter(|_| is_sized).map_or(word.to_string(), |cells| cells.to_string())
+    };
+    let parts = text.split_inclusive([' ', ';', '\n']);
+    let each = parts.map(|part| {
+        let bare = part.trim_end_matches([' ', ';', '\n']);
+        word(bare) + &part[bare.len()..]
+    });
+    each.collect()
+}
 
 /// A node of a tree or diagram; its low and high sons are places in `Diagram::nodes`.
 #[derive(Clone, Copy, Debug, PartialEq)]
@@ -189,29 +216,29 @@ fn or_refused(answer: Result<String, usize>) -> String {
 }
 
 /// What is asked, and those parts of the answer that the papers name: `build N TABLE CELLS ORDER`,
-/// `pack N TABLE CELLS WORKSPACE` or `list TABLE`; the table `01*8` is 01 eight times. Ten flags
-/// are tried by build only: pack would have 10! orders to draw.
+/// `pack N TABLE CELLS WORKSPACE` or `list TABLE`; the table `01*8` is 01 eight times, and `sized`
+/// has the words for cells. Ten flags are tried by build only: pack would have 10! orders to draw.
 const EXAMPLES: &[(&str, &str)] = &[
     // Document 01, settled examples.
-    ("pack 0 1 3072 1", "nodes 0; root 1"),
-    ("pack 1 00 3072 3", "nodes 0; order 0"),
-    ("pack 1 01 3072 3", "nodes 1"),
-    ("pack 2 0011 3072 9", "nodes 1; order 0 1; flags 0 1"),
-    ("pack 3 00010111 3072 27", "nodes 4"),
-    ("build 3 01101001 3072 012", "nodes 5"),
-    ("build 3 01101001 3072 021", "nodes 5"),
-    ("build 3 01101001 3072 102", "nodes 5"),
-    ("build 3 01101001 3072 120", "nodes 5"),
-    ("build 3 01101001 3072 201", "nodes 5"),
-    ("build 3 01101001 3072 210", "nodes 5"),
-    ("build 4 0001000100011111 3072 0123", "nodes 4"),
-    ("build 4 0001000100011111 3072 0213", "nodes 6"),
-    ("build 3 00100101 3072 012", "nodes 4"),
-    ("build 3 00100101 3072 102", "nodes 5"),
-    ("build 10 01*512 3072 0123456789", "nodes 1"),
-    ("build 11 01*1024 3072 0123456789", "refused 1"),
-    ("pack 11 01*1024 3072 177147", "refused 1"),
-    ("pack 3 00010111 3072 26", "refused 8"),
+    ("pack 0 1 all 1", "nodes 0; root 1"),
+    ("pack 1 00 all 3", "nodes 0; order 0"),
+    ("pack 1 01 all 3", "nodes 1"),
+    ("pack 2 0011 all 9", "nodes 1; order 0 1; flags 0 1"),
+    ("pack 3 00010111 all 27", "nodes 4"),
+    ("build 3 01101001 all 012", "nodes 5"),
+    ("build 3 01101001 all 021", "nodes 5"),
+    ("build 3 01101001 all 102", "nodes 5"),
+    ("build 3 01101001 all 120", "nodes 5"),
+    ("build 3 01101001 all 201", "nodes 5"),
+    ("build 3 01101001 all 210", "nodes 5"),
+    ("build 4 0001000100011111 all 0123", "nodes 4"),
+    ("build 4 0001000100011111 all 0213", "nodes 6"),
+    ("build 3 00100101 all 012", "nodes 4"),
+    ("build 3 00100101 all 102", "nodes 5"),
+    ("build 10 01*512 all 0123456789", "nodes 1"),
+    ("build 11 01*1024 all 0123456789", "refused 1"),
+    ("pack 11 01*1024 all 177147", "refused 1"),
+    ("pack 3 00010111 all 26", "refused 8"),
     ("pack 3 00010111 4 27", "refused 5"),
     ("pack 3 01101001 15 27", "nodes 5"),
     ("pack 3 01101001 12 27", "refused 10"),
@@ -226,16 +253,16 @@ const EXAMPLES: &[(&str, &str)] = &[
     ("list 02", "refused 3"),
     ("list 0*512", "refused 8"),
     // Document 001, Fig. 2 (a) and (b); their orders are listed there from the end nodes upward.
-    ("build 4 0001000100011111 3072 2301", "nodes 4"),
-    ("build 4 0001000100011111 3072 2031", "nodes 6"),
+    ("build 4 0001000100011111 all 2301", "nodes 4"),
+    ("build 4 0001000100011111 all 2031", "nodes 6"),
     // Document 002, page 26: x1x2 + x2x3 + x3x4, the first order being better (counted by hand).
-    ("build 4 0001001100011111 3072 0123", "nodes 6"),
-    ("build 4 0001001100011111 3072 0312", "nodes 7"),
+    ("build 4 0001001100011111 all 0123", "nodes 6"),
+    ("build 4 0001001100011111 all 0312", "nodes 7"),
     // Page 30: v2 to v6; 36: a, b, C and D; 38: v9 and v10; 39: v4, v5, v11 and v12.
-    ("build 3 10111101 3072 012", "nodes 5; flags 1 2 2"),
-    ("build 4 0000010110001101 3072 0123", "nodes 4; flags 1 1 1 1"),
-    ("build 2 1011 3072 01", "nodes 2; flags 1 1"),
-    ("build 3 11111001 3072 012", "nodes 4; flags 1 2 1"),
+    ("build 3 10111101 all 012", "nodes 5; flags 1 2 2"),
+    ("build 4 0000010110001101 all 0123", "nodes 4; flags 1 1 1 1"),
+    ("build 2 1011 all 01", "nodes 2; flags 1 1"),
+    ("build 3 11111001 all 012", "nodes 4; flags 1 2 1"),
 ];
 
 /// The digits of a word, as often as it says.
@@ -261,11 +288,11 @@ fn answer(ask: &str) -> Result<String, usize> {
         (2, table.len() != 1 << n),
         (3, table.iter().any(|&byte| byte > 1)),
         (4, matches!(&order, Some(order) if !is_order(order, n))),
-        (5, cells % 3 != 0 || cells > CELLS),
+        (5, are_unfit(cells)),
         (8, order.is_none() && workspace < 3usize.pow(n as u32)),
     ])?;
     let drawing = order.map_or_else(|| draw_packed(&table), |order| draw(&table, &order[..n]));
-    refuse(&[(10, drawing.nodes > cells / 3)])?;
+    refuse(&[(10, drawing.nodes > cells / WIDTH)])?;
     let Drawing { order, nodes, flags, root } = drawing;
     let (order, flags) = (phrase("order", &order), phrase("flags", &flags));
     Ok(format!("nodes {nodes}; {order}; {flags}; root {root}"))
@@ -275,7 +302,7 @@ fn answer(ask: &str) -> Result<String, usize> {
 fn check() -> i32 {
     let mut code = 0;
     for (ask, expected) in EXAMPLES {
-        let found = or_refused(answer(ask));
+        let found = or_refused(answer(&sized(ask)));
         if !expected.split("; ").all(|part| found.split("; ").any(|other| other == part)) {
             println!("second: {ask}: expected {expected}, found {found}");
             code = 1;

@@ -2,7 +2,7 @@
 //! A record is known by the rule that its node stands for, and what a result needs is read off
 //! the paper's sentences on rules.
 
-use crate::{is_order, refuse, CELLS};
+use crate::{are_unfit, is_order, refuse, WIDTH};
 use std::collections::BTreeSet;
 
 /// A rule by its table: the set of the rows that say yes.
@@ -129,7 +129,7 @@ impl Store {
             (1, *n > 10),
             (2, matches!(ask, Ask::Tabulate(bytes) if *bytes != row_count(*n))),
             (4, !is_order(order, *n)),
-            (5, self.cells % 3 != 0 || self.cells > CELLS),
+            (5, are_unfit(self.cells)),
             (6, !is_open && !self.is_sound()),
             (7, !is_open && highest > used + 1),
             (9, unfit),
@@ -159,7 +159,7 @@ impl Store {
     pub fn add(&mut self, rule: &Rule) -> Result<usize, usize> {
         let mut needed = self.needed(rule);
         let added = needed.len();
-        refuse(&[(10, added > self.cells / 3 - self.state.used)])?;
+        refuse(&[(10, added > self.cells / WIDTH - self.state.used)])?;
         self.state.used += added;
         self.records.iter_mut().for_each(|held| held.append(&mut needed));
         Ok(added)

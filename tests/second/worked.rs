@@ -3,20 +3,21 @@
 
 use crate::play::play;
 use crate::store::{depends, records_of, Rule};
-use crate::{digits, draw, orders, table_from};
+use crate::{digits, draw, orders, sized, table_from};
 
-/// Lists and what is printed for them, the lines parted by `;`.
+/// Lists, with the words of `sized` for numbers of cells, and what is printed for them, the lines
+/// parted by `;`.
 pub const LISTS: &[(&str, &str)] = &[
     // Parity lacks its root, x1 XOR x2, the opposite of that and of x2: nine records with the five
     // used. Within x0 XOR x1 stands the opposite of x1, whose number is free.
     (
-        "list 27;o 3 012 9;f 0;f 1;j 6 @1 @2;f 2;j 6 @3 @4;t 10 8;end",
+        "list 9r;o 3 012 9;f 0;f 1;j 6 @1 @2;f 2;j 6 @3 @4;t 10 8;end",
         "open accepted used 0;rule 2 used 1;rule 3 used 2;rule 5 used 4;rule 6 used 5;\
          rule 10 used 9;table 01101001 used 9;end used 9;node 2 01010101;node 3 00110011;\
          node 5 01100110;node 6 00001111;node 10 01101001;sum 4220",
     ),
     (
-        "list 24;o 3 012 9;f 0;f 1;j 6 @1 @2;f 2;j 6 @3 @4;x @3 0 1;x 5 0 1;x @3 0 0;w @6 2;end",
+        "list 8r;o 3 012 9;f 0;f 1;j 6 @1 @2;f 2;j 6 @3 @4;x @3 0 1;x 5 0 1;x @3 0 0;w @6 2;end",
         "open accepted used 0;rule 2 used 1;rule 3 used 2;rule 5 used 4;rule 6 used 5;\
          refused 10 used 5;rule inner used 5;rule @6 used 5;rule 3 used 5;answer 0 used 5;\
          end used 5;node 2 01010101;node 3 00110011;node 5 01100110;node 6 00001111;\
@@ -24,7 +25,7 @@ pub const LISTS: &[(&str, &str)] = &[
     ),
     // x0x1 + x2x3 needs its root and x1 + x2x3; in 0 2 1 3 also x1 + x3.
     (
-        "list 24;o 4 0123 0;f 0;f 1;j 1 @1 @2;f 2;f 3;j 1 @4 @5;j 7 @3 @6;w @7 12;w @7 6;end",
+        "list 8r;o 4 0123 0;f 0;f 1;j 1 @1 @2;f 2;f 3;j 1 @4 @5;j 7 @3 @6;w @7 12;w @7 6;end",
         "open accepted used 0;rule 2 used 1;rule 3 used 2;rule 4 used 3;rule 5 used 4;\
          rule 6 used 5;rule 7 used 6;rule 9 used 8;answer 1 used 8;answer 0 used 8;end used 8;\
          node 2 0101010101010101;node 3 0011001100110011;node 4 0001000100010001;\
@@ -32,13 +33,13 @@ pub const LISTS: &[(&str, &str)] = &[
          node 9 0001000100011111;sum 17697",
     ),
     (
-        "list 24;o 4 0213 0;f 0;f 1;j 1 @1 @2;f 2;f 3;j 1 @4 @5;j 7 @3 @6;o 9 0 3;end",
+        "list 8r;o 4 0213 0;f 0;f 1;j 1 @1 @2;f 2;f 3;j 1 @4 @5;j 7 @3 @6;o 9 0 3;end",
         "open accepted used 0;rule 2 used 1;rule 3 used 2;rule 4 used 3;rule 5 used 4;\
          rule 6 used 5;rule 7 used 6;refused 10 used 6;open refused 4 used 3;end used 3",
     ),
     // With flag 1 asked first, x0 and not x1 needs its root alone. The opposite of x1 is lacking.
     (
-        "list 9;o 2 10 0;f 0;f 1;j 2 @1 @2;j 12 @2 0;j 5 @2 @3;c @1 @2 @2;x @1 1 0;j 16 5 0;end",
+        "list 3r;o 2 10 0;f 0;f 1;j 2 @1 @2;j 12 @2 0;j 5 @2 @3;c @1 @2 @2;x @1 1 0;j 16 5 0;end",
         "open accepted used 0;rule 2 used 1;rule 3 used 2;rule 4 used 3;refused 10 used 3;\
          rule 4 used 3;rule 3 used 3;rule 2 used 3;refused 7 used 3;end used 3;node 2 0101;\
          node 3 0011;node 4 0100;sum 345",
@@ -52,14 +53,14 @@ pub const LISTS: &[(&str, &str)] = &[
     ),
     // Cells as lent are not; a refused open leaves the state that it was given.
     (
-        "list 3;k 2;t 0 2;t 9 1;o 1 1 4;t 0 1;t 0 2;k 1;o 1 0 4;f 0;j 9 @8 2;j 6 2 3;x 2 1 0;end",
+        "list 1r;k 2;t 0 2;t 9 1;o 1 1 4;t 0 1;t 0 2;k 1;o 1 0 4;f 0;j 9 @8 2;j 6 2 3;x 2 1 0;end",
         "refused 6 used 0;refused 2 bytes kept used 0;refused 6 bytes kept used 0;\
          open refused 4 used 4;refused 2 bytes kept used 4;refused 4 bytes kept used 4;\
          refused 4 used 4;open accepted used 0;rule 2 used 1;rule 1 used 1;refused 7 used 1;\
          refused 9 used 1;end used 1;node 2 01;node 1 11;sum 38",
     ),
     (
-        "list 4;k 1;o 1 0 4;t 0 1;t 0 2;o 1 01 5;w 0 0;o 11 01 65535;t 0 0;c 9 9 9;end",
+        "list 1r+1;k 1;o 1 0 4;t 0 1;t 0 2;o 1 01 5;w 0 0;o 11 01 65535;t 0 0;c 9 9 9;end",
         "refused 5 used 0;open refused 5 used 4;refused 2 bytes kept used 4;\
          refused 5 bytes kept used 4;open refused 4 used 5;refused 4 used 5;\
          open refused 1 used 65535;refused 1 bytes kept used 65535;refused 1 used 65535;\
@@ -69,7 +70,7 @@ pub const LISTS: &[(&str, &str)] = &[
 
 /// Joining flag 1 and flag 0 gives a table whose rows are the operator's digits.
 fn by_digits(code: usize) -> bool {
-    let output = play(&format!("list 15\no 2 01 0\nf 1\nf 0\nj {code} @1 @2\nt @3 4\n"));
+    let output = play(&sized(&format!("list 5r\no 2 01 0\nf 1\nf 0\nj {code} @1 @2\nt @3 4\n")));
     output.contains(&format!("\ntable {code:04b} used "))
 }
 
@@ -87,7 +88,7 @@ fn as_drawn(table: &[usize], order: &[usize]) -> bool {
 pub fn faults() -> Vec<String> {
     let mut faults = Vec::new();
     for (input, expected) in LISTS {
-        let found = play(&input.replace(';', "\n")).trim_end().replace('\n', ";");
+        let found = play(&sized(input).replace(';', "\n")).trim_end().replace('\n', ";");
         if found != *expected {
             faults.push(format!("{input}: expected {expected}, found {found}"));
         }
