@@ -4,6 +4,7 @@ use mathlib.Core.Path.{_≡_, refl, sym, ap, _∙_}
 use mathlib.Core.Bool.{Bool, true, false, not, _&&_}
 use mathlib.Core.List.{List, [], _∷_}
 use Prim.Native.Nat.{ℕ, _+_, _≤_, _<_}
+use native.Mathlib.Decide.{ℕ-discrete}
 use native.Mathlib.Omega.{arith}
 use borrow.Author.Count.{below-more}
 use borrow.Author.Tests.{eqb-true, eq-eqb, ne-eqb, ltb-true, lt-ltb, le-leb, lt-leb, not-true, not-false}
@@ -15,6 +16,7 @@ use Rattle.rule.specs.Cells.{room, flagAt, lowAt, highAt, flagsBelow, childrenD
 use Rattle.theory.proofs.Tests.{and-split, below-each}
 use Rattle.theory.proofs.Scan.{fails-below}
 use Rattle.arguments.specs.declared.level.Levels.{Levels}
+use Rattle.unique.specs.Node.{Finds}
 use Rattle.soundness.specs.Record.{isNew, fitRecord, Child, Next}
 
 fails : (b : Bool) → (b ≡ true → ⊥) → b ≡ false
@@ -24,11 +26,11 @@ fails false d = refl
 -- ---- two records
 
 module _ (c : List ℕ) (j k : ℕ) where
-  pub same-record : flagAt c j ≡ flagAt c k → lowAt c j ≡ lowAt c k → highAt c j ≡ highAt c k → sameRecord c j k ≡ true
+  same-record : flagAt c j ≡ flagAt c k → lowAt c j ≡ lowAt c k → highAt c j ≡ highAt c k → sameRecord c j k ≡ true
   unfolding sameRecord
   same-record e f g = rw (eq-eqb _ _ e, eq-eqb _ _ f, eq-eqb _ _ g)
 
-  pub other-record : (flagAt c j ≡ flagAt c k → lowAt c j ≡ lowAt c k → highAt c j ≡ highAt c k → ⊥) → sameRecord c j k ≡ false
+  other-record : (flagAt c j ≡ flagAt c k → lowAt c j ≡ lowAt c k → highAt c j ≡ highAt c k → ⊥) → sameRecord c j k ≡ false
   unfolding sameRecord
   other-record d =
       fails (sameRecord c j k)
@@ -54,6 +56,24 @@ pub next-child : {levels : Levels} {c index : List ℕ} {k flag low high : ℕ} 
     → (m : ℕ) → m < k + 2 → Child levels c flag m
 next-child x f m h =
     record { turned = x .turned; flag = f .below-n; node = omega (arith, x .fits); child-flag = λ g. x .flags _ (omega arith) }
+
+-- it is new where a search for it among the records before it finds none
+pub found-new : {n : ℕ} {c : List ℕ} {k flag low high r : ℕ} → Fields n c k flag low high → Finds c k flag low high r → eqb r k ≡ isNew c k
+unfolding isNew
+found-new {n} {c} {k} {flag} {low} {high} {r} fields found = go (ℕ-discrete r k)
+  where
+    go : Dec (r ≡ k) → eqb r k ≡ each (λ j. not (sameRecord c j k)) (below k)
+    go (yes e) =
+        eq-eqb _ _ e
+        ∙ sym (below-each _ k (λ i h.
+        ap not (other-record _ _ _ (λ p q s.
+        found .none e i h (record { flag-is = p ∙ sym (fields .flag-is); low-is = q ∙ sym (fields .low-is); high-is = s ∙ sym (fields .high-is) })))))
+    go (no d) =
+        let less : r < k = omega (arith, found .most, d) in
+        let is = found .there less in
+        ne-eqb _ _ d
+        ∙ sym (fails-below _ k r less
+        (ap not (same-record _ _ _ (is .flag-is ∙ fields .flag-is) (is .low-is ∙ fields .low-is) (is .high-is ∙ fields .high-is))))
 
 module _ (n : ℕ) (order c : List ℕ) (k flag low high : ℕ) (fields : Fields n c k flag low high) where
   fit-rest : fitRecord n order c k ≡ ((asksLater order c flag low && asksLater order c flag high) && isNew c k)

@@ -1,10 +1,8 @@
 use arguments::Levels;
 ghost use mathlib.Core.Path.{_≡_};
-ghost use Prim.Native.Nat.{_≤_, _<_};
 ghost use Rattle.rule.specs.Order.{flags};
-ghost use Rattle.rule.specs.Cells.{room, asksLater};
-ghost use Rattle.unique.specs.Index.{Indexed};
-ghost use Rattle.soundness.specs.Record.{isNew, fitRecord, Child, Next};
+ghost use Rattle.rule.specs.Cells.{asksLater};
+ghost use Rattle.soundness.specs.Record.{fitRecord, Child, Next};
 
 // Whether node m is an end node or asks a flag later in the order than v.
 fn asks_later(levels: Levels, cells: &[u16], v: u16, m: u16) -> bool
@@ -16,20 +14,6 @@ fn asks_later(levels: Levels, cells: &[u16], v: u16, m: u16) -> bool
     }
     let w = cells::flag_at(cells, m - 2);
     levels.level(v) < levels.level(w)
-}
-
-// Whether record k equals none of the records before it, which are entered in the index.
-fn is_new(cells: &[u16], index: &[u16; unique::INDEX], k: u16) -> bool
-    requires { ⌜ (k < room (now cells)) × (room (now cells) ≤ 1024) × Indexed (now cells) k (now index) ⌝ }
-    ensures { λ r. ⌜ r ≡ isNew (now (cells .entry)) k ⌝ }
-{
-    let flag = cells::flag_at(cells, k);
-    let low = cells::low_at(cells, k);
-    let high = cells::high_at(cells, k);
-    if unique::find(cells, index, k, flag, low, high) == k {
-        return true;
-    }
-    false
 }
 
 // Whether record k is sound by itself and beside the records before it, which are sound and entered in the index.
@@ -55,7 +39,7 @@ pub fn fit_record(levels: Levels, cells: &[u16], index: &[u16; unique::INDEX], k
     }
     if asks_later(levels, cells, flag, low) {
         if asks_later(levels, cells, flag, high) {
-            return is_new(cells, index, k);
+            return unique::find(cells, index, k, flag, low, high) == k;
         }
     }
     false

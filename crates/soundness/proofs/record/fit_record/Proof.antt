@@ -5,7 +5,7 @@ use borrow.Author.Needs.{needs}
 use borrow.Author.Tests.{lt-ltb, le-ltb, eq-eqb, ne-eqb}
 use denote.Ref.{now}
 use Rattle.soundness.specs.Record.{fitRecord, Child}
-use Rattle.soundness.proofs.Parts.{Fields, next-child, fit-new, fit-not-low, fit-not-high}
+use Rattle.soundness.proofs.Parts.{Fields, next-child, fit-new, found-new, fit-not-low, fit-not-high}
 use Rattle.soundness.proofs.record.fit_record.Statement.{statement}
 use Rattle.soundness.proofs.record.fit_record.Tie as tie
 
@@ -87,7 +87,7 @@ returns-5 c =
     (low .if5 .taken)
     (high .before .asks-later2 .ensures)
     (high .if6 .taken)
-    (c .is-new .ensures)
+    (found-new (passed (low .before .before)) (c .find .ensures))
 
 returns-6 : tie.Need-returns-6
 returns-6 c =
