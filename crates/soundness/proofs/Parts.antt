@@ -57,7 +57,7 @@ pub next-child : {levels : Levels} {c index : List ℕ} {k flag low high : ℕ} 
 next-child x f m h =
     record { turned = x .turned; flag = f .below-n; node = omega (arith, x .fits); child-flag = λ g. x .flags _ (omega arith) }
 
--- it is new where a search for it among the records before it finds none
+-- the record is new where a search for it among those before it finds none
 pub found-new : {n : ℕ} {c : List ℕ} {k flag low high r : ℕ} → Fields n c k flag low high → Finds c k flag low high r → eqb r k ≡ isNew c k
 unfolding isNew
 found-new {n} {c} {k} {flag} {low} {high} {r} fields found = go (ℕ-discrete r k)

@@ -39,6 +39,7 @@ pub fn fit_record(levels: Levels, cells: &[u16], index: &[u16; unique::INDEX], k
     }
     if asks_later(levels, cells, flag, low) {
         if asks_later(levels, cells, flag, high) {
+            // It is new where the records before it have none that is the same.
             return unique::find(cells, index, k, flag, low, high) == k;
         }
     }
