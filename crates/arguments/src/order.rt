@@ -2,9 +2,6 @@ use rule::Order;
 ghost use mathlib.Core.Path.{_≡_};
 ghost use mathlib.Core.List.{[], _∷_};
 ghost use Prim.Native.Nat.{_≤_, _<_};
-ghost use lib.Dec.{eqb};
-ghost use lib.ListN.{drop};
-ghost use Rattle.rule.specs.Tests.{each};
 ghost use Rattle.rule.specs.Order.{flags, times, eachOnce, restZero, fitOrder};
 ghost use Rattle.rule.specs.Refusals.{refusal, flagCount, orderPlaces};
 

@@ -1,8 +1,8 @@
-use crate::reach::all_reached;
-use crate::records::sound;
+use reach::all_reached;
 use rule::Counted;
 use rule::Node;
 use rule::Order;
+use soundness::sound;
 ghost use mathlib.Core.Path.{_≡_};
 ghost use mathlib.Core.List.{[], _∷_};
 ghost use Prim.Native.Nat.{_+_, _≤_};
