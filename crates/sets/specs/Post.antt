@@ -2,11 +2,14 @@
 -- Assumes nothing.
 use mathlib.Core.Path.{_≡_}
 use Prim.Native.Nat.{ℕ, _≤_, _<_}
-use Rattle.rule.specs.Sets.{setSize, setAt}
+use Rattle.rule.specs.Sets.{setSize, sets, setAt}
+use Rattle.sets.specs.Sequence.{InSequence}
 
+-- and, of the list that the constant table has, what the test proves
 pub record SetAt (i r : ℕ) : Type 0 where
   pub is : r ≡ setAt i
   pub small : r < 1024
+  pub sequence : InSequence sets
 
 pub record Size (set r : ℕ) : Type 0 where
   pub is : r ≡ setSize set
