@@ -1,4 +1,4 @@
--- What the test says of the members: they rise by size and then by number, and each set of ten flags is there once.
+-- What the test says of a list's members: they rise by size and then by number, and each set of ten flags is among them, once.
 -- Assumes nothing.
 use mathlib.Core.Path.{_≡_, refl}
 use mathlib.Core.Bool.{true, _&&_}
@@ -17,26 +17,26 @@ use Rattle.theory.proofs.Bits.{in-below, length-from}
 use Rattle.theory.proofs.Tests.{and-split, each-in}
 use Rattle.theory.proofs.Perm.{Once, Exactly, perm-of-length, perm-back}
 use Rattle.theory.proofs.Least.{Pairwise}
-use Rattle.sets.specs.Sequence.{rank, climbs, test}
+use Rattle.sets.specs.Sequence.{key, climbs, test}
 
 abbrev pub Rises : List ℕ → Type 0
-Rises l = Pairwise (λ (x y : ℕ). rank x < rank y) l
+Rises l = Pairwise (λ (x y : ℕ). key x < key y) l
 
 climbs-on : (x : ℕ) (l : List ℕ) → climbs (x ∷ l) ≡ true → climbs l ≡ true
 climbs-on x [] t = refl
-climbs-on x (y ∷ l) t = and-split (ltb (rank x) (rank y)) (climbs (y ∷ l)) t .1
+climbs-on x (y ∷ l) t = and-split (ltb (key x) (key y)) (climbs (y ∷ l)) t .1
 
-later : (x : ℕ) (l : List ℕ) → climbs (x ∷ l) ≡ true → (y : ℕ) → In y l → rank x < rank y
+later : (x : ℕ) (l : List ℕ) → climbs (x ∷ l) ≡ true → (y : ℕ) → In y l → key x < key y
 later x [] t y m = absurd (not-nil m)
 later x (z ∷ l) t y m =
-    let next = ltb-true _ _ (and-split (ltb (rank x) (rank z)) (climbs (z ∷ l)) t .0) in
+    let next = ltb-true _ _ (and-split (ltb (key x) (key z)) (climbs (z ∷ l)) t .0) in
     elim (cases-cons m) [ inl e ↦ rw e next | inr k ↦ lt-trans next (later z l (climbs-on x (z ∷ l) t) y k) ]
 
 climbing : (l : List ℕ) → climbs l ≡ true → Rises l
 climbing [] t = tt
 climbing (x ∷ l) t = (later x l t, climbing l (climbs-on x l t))
 
-pub rises-once : (l : List ℕ) → Rises l → Once l
+rises-once : (l : List ℕ) → Rises l → Once l
 rises-once [] r = tt
 rises-once (x ∷ l) r = (λ m. omega (arith, r .0 x m), rises-once l (r .1))
 

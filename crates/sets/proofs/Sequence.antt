@@ -20,7 +20,7 @@ use Rattle.theory.proofs.Tests.{keep-in, in-keep}
 use Rattle.theory.proofs.Perm.{Within}
 use Rattle.theory.proofs.Least.{pairwise-append, Rising, rising-from, rising-keep}
 use Rattle.theory.proofs.Scan.{at-in}
-use Rattle.sets.specs.Sequence.{rank, test, InSequence}
+use Rattle.sets.specs.Sequence.{key, test, InSequence}
 use Rattle.sets.specs.Post.{SetAt}
 use Rattle.sets.proofs.Rising.{Rises, length-is, rises, exact}
 use Rattle.sets.proofs.Size.{size-most, within, whole}
@@ -32,7 +32,7 @@ place x [] m = absurd (not-nil m)
 place x (y ∷ l) m =
     ⊎-elim (λ e. (0, omega arith, sym e)) (λ q. let (i, h, e) = place x l q in (suc i, omega arith, e)) (cases-cons m)
 
-rising-at : (l : List ℕ) → Rises l → (i j : ℕ) → i < j → j < length l → rank (getD l i 0) < rank (getD l j 0)
+rising-at : (l : List ℕ) → Rises l → (i j : ℕ) → i < j → j < length l → key (getD l i 0) < key (getD l j 0)
 rising-at [] r i j h g = absurd (omega arith)
 rising-at (x ∷ l) r i zero h g = absurd (omega arith)
 rising-at (x ∷ l) r zero (suc j) h g = r .0 _ (at-in l j (le-of-suc-le-suc g))
@@ -42,21 +42,21 @@ module _ (l : List ℕ) (t : test l ≡ true) where
   small : (i : ℕ) → i < 1024 → getD l i 0 < 1024
   small i h = exact l t .sound _ (at-in l i (omega (arith, length-is l t)))
 
-  rising : (i j : ℕ) → i < j → j < 1024 → rank (getD l i 0) < rank (getD l j 0)
+  rising : (i j : ℕ) → i < j → j < 1024 → key (getD l i 0) < key (getD l j 0)
   rising i j h k = rising-at l (rises l t) i j h (omega (arith, length-is l t))
 
   occurs : (x : ℕ) → x < 1024 → (i : ℕ) × (i < 1024) × (getD l i 0 ≡ x)
   occurs x h = let (i, k, e) = place x l (exact l t .whole x h) in (i, omega (arith, length-is l t), e)
 
-  -- of two places, the one with the lower rank stands first
-  before : (i j : ℕ) → i < 1024 → j < 1024 → rank (getD l i 0) < rank (getD l j 0) → i < j
+  -- of two places, the one with the lower key stands first
+  before : (i j : ℕ) → i < 1024 → j < 1024 → key (getD l i 0) < key (getD l j 0) → i < j
   before i j h k low = go (decLt i j)
     where
       go : Dec (i < j) → i < j
       go (yes b) = b
       go (no d) =
           ⊎-elim
-          (λ (e : j ≡ i). absurd (omega (arith, ap (λ (x : ℕ). rank (getD l x 0)) e)))
+          (λ (e : j ≡ i). absurd (omega (arith, ap (λ (x : ℕ). key (getD l x 0)) e)))
           (λ (b : j < i). absurd (omega (arith, rising j i b h)))
           (eq-or-lt-of-le (omega arith))
 
@@ -64,12 +64,12 @@ module _ (l : List ℕ) (t : test l ≡ true) where
   once i j h k e = go (decLt i j) (decLt j i)
     where
       go : Dec (i < j) → Dec (j < i) → i ≡ j
-      go (yes b) _ = absurd (omega (arith, rising i j b k, ap rank e))
-      go (no d) (yes b) = absurd (omega (arith, rising j i b h, ap rank e))
+      go (yes b) _ = absurd (omega (arith, rising i j b k, ap key e))
+      go (no d) (yes b) = absurd (omega (arith, rising j i b h, ap key e))
       go (no d) (no f) = omega arith
 
   sizes : (i j : ℕ) → i ≤ j → j < 1024 → setSize (getD l i 0) ≤ setSize (getD l j 0)
-  unfolding rank
+  unfolding key
   sizes i j h k =
       ⊎-elim
       (λ (e : i ≡ j). omega (arith, ap (λ (x : ℕ). setSize (getD l x 0)) e))
@@ -77,14 +77,14 @@ module _ (l : List ℕ) (t : test l ≡ true) where
       (eq-or-lt-of-le h)
 
   subsets : (i x : ℕ) → i < 1024 → x < 1024 → bitAnd x (getD l i 0) ≡ x → x ≢ getD l i 0 → (j : ℕ) × (j < i) × (getD l j 0 ≡ x)
-  unfolding rank
+  unfolding key
   subsets i x h g sub other =
       let (j, k, e) = occurs x g in
       let less : setSize x ≤ setSize (getD l i 0) = within 10 x (getD l i 0) sub in
       let unlike : setSize x ≢ setSize (getD l i 0) = λ q. other (whole 10 x (getD l i 0) g (small i h) sub q) in
       (j, before j i k h (omega (arith, ap setSize e, e, small i h)), e)
 
-  pub in-sequence : InSequence l
+  in-sequence : InSequence l
   in-sequence = record { occurs = occurs; once = once; sizes = sizes; subsets = subsets }
 
 -- ---- the definition's list: its members, and that it rises
@@ -116,7 +116,7 @@ in-of-sizes x h (k ∷ ks) m =
     (cases-cons m)
 
 one-size : (k : ℕ) (l : List ℕ) → Rising l → ((x : ℕ) → In x l → setSize x ≡ k) → Rises l
-unfolding rank
+unfolding key
 one-size k [] r e = tt
 one-size k (x ∷ l) r e =
     (λ y m. omega (arith, r .0 y m, e x (head refl), e y (tail m)), one-size k l (r .1) (λ y m. e y (tail m)))
@@ -127,7 +127,7 @@ of-size-rises k =
     one-size k (ofSize k) (rising-keep (λ (x : ℕ). eqb (setSize x) k) (below 1024) (rising-from 0 1024)) (λ x m. of-size-in k x m .1)
 
 of-sizes-rise : (ks : List ℕ) → Rising ks → Rises (ofSizes ks)
-unfolding ofSizes rank
+unfolding ofSizes key
 of-sizes-rise [] r = tt
 of-sizes-rise (k ∷ ks) r =
     pairwise-append (ofSize k) (ofSizes ks) (of-size-rises k) (of-sizes-rise ks (r .1))
@@ -137,7 +137,7 @@ of-sizes-rise (k ∷ ks) r =
 
 -- ---- lists that rise and have the same members are one
 
-pub same-list : (l m : List ℕ) → Rises l → Rises m → Within l m → Within m l → l ≡ m
+same-list : (l m : List ℕ) → Rises l → Rises m → Within l m → Within m l → l ≡ m
 same-list [] [] r s w v = refl
 same-list [] (y ∷ m) r s w v = absurd (not-nil (v y (head refl)))
 same-list (x ∷ l) [] r s w v = absurd (not-nil (w x (head refl)))
@@ -150,9 +150,9 @@ same-list (x ∷ l) (y ∷ m) r s w v = ap₂ _∷_ first (same-list l m (r .1) 
         (cases-cons (w x (head refl)))
 
     rest : {a b : ℕ} {p q : List ℕ} → Rises (a ∷ p) → a ≡ b → Within (a ∷ p) (b ∷ q) → Within p q
-    rest {a} g e i z k = ⊎-elim (λ q. absurd (omega (arith, g .0 z k, ap rank (q ∙ sym e)))) (λ q. q) (cases-cons (i z (tail k)))
+    rest {a} g e i z k = ⊎-elim (λ q. absurd (omega (arith, g .0 z k, ap key (q ∙ sym e)))) (λ q. q) (cases-cons (i z (tail k)))
 
-pub is-list : (l : List ℕ) → test l ≡ true → l ≡ sets
+is-list : (l : List ℕ) → test l ≡ true → l ≡ sets
 unfolding sets
 is-list l t =
     same-list l sets (rises l t) (of-sizes-rise (below 11) (rising-from 0 11))

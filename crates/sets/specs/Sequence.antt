@@ -12,15 +12,15 @@ use lib.ListN.{length, getD}
 use Rattle.rule.specs.Tests.{each}
 use Rattle.rule.specs.Sets.{setSize}
 
--- a set's rank: by its size, and then by its number
-unfoldable pub rank : ℕ → ℕ
-rank x = setSize x * 1024 + x
+-- what the list rises by: a set's size, and then its number
+unfoldable pub key : ℕ → ℕ
+key x = setSize x * 1024 + x
 
--- each set ranks below the next
+-- each key is below the next
 abbrev pub climbs : List ℕ → Bool
 climbs [] = true
 climbs (x ∷ []) = true
-climbs (x ∷ y ∷ l) = ltb (rank x) (rank y) && climbs (y ∷ l)
+climbs (x ∷ y ∷ l) = ltb (key x) (key y) && climbs (y ∷ l)
 
 -- 1,024 sets of ten flags, by rising size and then rising number
 abbrev pub test : List ℕ → Bool

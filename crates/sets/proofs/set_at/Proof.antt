@@ -4,12 +4,12 @@ use mathlib.Core.Path.{refl}
 use borrow.Author.Needs.{needs}
 use lib.Count.{onesIn}
 use Rattle.rule.specs.Tests.{each}
-use Rattle.sets.specs.Sequence.{rank}
+use Rattle.sets.specs.Sequence.{key}
 use Rattle.sets.proofs.set_at.Statement.{statement}
 use Rattle.sets.proofs.set_at.Tie as tie
 
 entry-requires : tie.Need-entry-requires
-unfolding each rank onesIn
+unfolding each key onesIn
 entry-requires c κs = (refl, c .before .pre)
 
 pub set-at-spec : {M : Type 1} → statement M
