@@ -27,10 +27,11 @@ use Rattle.folding.specs.Codes.{Codes}
 use Rattle.folding.proofs.Codes.{codes-table, codes-fold, count-is}
 use Rattle.stretches.specs.Stretch.{stretchOf, Starts, PartOf}
 use Rattle.stretches.proofs.Stretches.{fits, written-length, written-own}
-use Rattle.solving.specs.Ready.{Ready}
-use Rattle.solving.specs.Choice.{via, Bounded, Solves}
-use Rattle.solving.proofs.Ready.{ready-flag, ready-rest, ready-kept}
-use Rattle.solving.proofs.Choices.{via-most}
+use Rattle.costing.specs.Ready.{Ready}
+use Rattle.costing.specs.Choice.{via, Bounded}
+use Rattle.costing.proofs.Ready.{ready-flag, ready-rest, ready-kept}
+use Rattle.costing.proofs.Choices.{via-most}
+use Rattle.solving.specs.Solves.{Solves}
 use Rattle.searching.specs.Order.{Asks, Members, Followed, Searched}
 
 -- ---- the sets passed

@@ -1,11 +1,11 @@
--- `solving::step::solve` meets its contract: the stretch is folded first, and the flag is chosen with its codes.
+-- `solving::solve` meets its contract: the stretch is folded first, and the flag is chosen with its codes.
 -- Assumes nothing.
 use mathlib.Core.Path.{refl}
 use native.Mathlib.Omega.{arith}
 use borrow.Author.Needs.{needs}
-use Rattle.solving.proofs.Ready.{ready-small, ready-kept}
-use Rattle.solving.proofs.step.solve.Statement.{statement}
-use Rattle.solving.proofs.step.solve.Tie as tie
+use Rattle.costing.proofs.Ready.{ready-small, ready-kept}
+use Rattle.solving.proofs.solve.Statement.{statement}
+use Rattle.solving.proofs.solve.Tie as tie
 
 cheapest-requires : tie.Need-cheapest-requires
 cheapest-requires c κs =

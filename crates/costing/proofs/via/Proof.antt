@@ -1,12 +1,12 @@
--- `solving::choice::via` meets its contract: the two parts are the stretches of the set and of the set without v.
+-- `costing::via` meets its contract: the two parts are the stretches of the set and of the set without v.
 -- Assumes nothing.
 use native.Mathlib.Omega.{arith}
 use borrow.Author.Needs.{needs}
 use lib.Pow.{pow-mono}
-use Rattle.solving.proofs.Ready.{ready-small, ready-small-flag, ready-rest, can-fold}
-use Rattle.solving.proofs.Choices.{via-most, via-is}
-use Rattle.solving.proofs.choice.via.Statement.{statement}
-use Rattle.solving.proofs.choice.via.Tie as tie
+use Rattle.costing.proofs.Ready.{ready-small, ready-small-flag, ready-rest, can-fold}
+use Rattle.costing.proofs.Choices.{via-most, via-is}
+use Rattle.costing.proofs.via.Statement.{statement}
+use Rattle.costing.proofs.via.Tie as tie
 
 set-bit-requires : tie.Need-set-bit-requires
 set-bit-requires c κs = let p = c .before .pre in (ready-small (p .0), ready-small-flag (p .0) _ (p .2), omega arith)

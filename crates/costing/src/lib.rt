@@ -1,9 +1,9 @@
-// The flag of a set that is asked first.
+// What it costs to ask the flags of a set with each of them first, and the cheapest (document 01, "Packing"; document 001, chapter 3).
 use stretches::SET_COUNT;
 ghost use mathlib.Core.Path.{_≡_};
 ghost use Rattle.rule.specs.Bits.{bit};
-ghost use Rattle.solving.specs.Ready.{Ready, Lowest};
-ghost use Rattle.solving.specs.Choice.{Bounded, via, Cheapest};
+ghost use Rattle.costing.specs.Ready.{Ready, Lowest};
+ghost use Rattle.costing.specs.Choice.{Bounded, via, Cheapest};
 
 // A flag of a set, and the least cost of the orders that ask it first.
 pub struct Choice {

@@ -1,15 +1,15 @@
--- `solving::choice::cheapest` meets its contract: of the set's flags passed, the one in hand is the smallest that costs least.
+-- `costing::cheapest` meets its contract: of the set's flags passed, the one in hand is the smallest that costs least.
 -- Assumes nothing.
 use Prim.Native.Nat.{_-_}
 use mathlib.Core.Path.{sym, _∙_}
 use mathlib.Core.Logic.{⊎-elim}
 use native.Mathlib.Omega.{arith}
 use borrow.Author.Needs.{needs}
-use Rattle.solving.specs.Choice.{CheapestBelow}
-use Rattle.solving.proofs.Ready.{ready-small-flag}
-use Rattle.solving.proofs.Choices.{cheapest-first, cheapest-pass, cheapest-keep, cheapest-take, cheapest-all}
-use Rattle.solving.proofs.choice.cheapest.Statement.{statement}
-use Rattle.solving.proofs.choice.cheapest.Tie as tie
+use Rattle.costing.specs.Choice.{CheapestBelow}
+use Rattle.costing.proofs.Ready.{ready-small-flag}
+use Rattle.costing.proofs.Choices.{cheapest-first, cheapest-pass, cheapest-keep, cheapest-take, cheapest-all}
+use Rattle.costing.proofs.cheapest.Statement.{statement}
+use Rattle.costing.proofs.cheapest.Tie as tie
 
 abbrev Inv-loop : tie.InvT-loop
 Inv-loop n set v starts workspace least flag₀ cost₀ u₀ flag cost u = CheapestBelow u n workspace least set cost flag

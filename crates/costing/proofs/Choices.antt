@@ -13,9 +13,9 @@ use Rattle.theory.proofs.Bits.{clear-lt, length-from}
 use Rattle.theory.proofs.Tests.{length-keep}
 use Rattle.folding.specs.Fold.{foldCount, placeOf}
 use Rattle.stretches.specs.Stretch.{stretchOf, PartOf}
-use Rattle.solving.specs.Ready.{Ready, Lowest}
-use Rattle.solving.specs.Choice.{via, Bounded, CheapestBelow, Cheapest}
-use Rattle.solving.proofs.Ready.{rest-half, rest-most, ready-flag, ready-rest, source-is, own-is}
+use Rattle.costing.specs.Ready.{Ready, Lowest}
+use Rattle.costing.specs.Choice.{via, Bounded, CheapestBelow, Cheapest}
+use Rattle.costing.proofs.Ready.{rest-half, rest-most, ready-flag, ready-rest, source-is, own-is}
 
 -- ---- costs
 

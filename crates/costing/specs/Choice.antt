@@ -3,11 +3,10 @@
 use mathlib.Core.Path.{_≡_}
 use mathlib.Core.List.{List}
 use Prim.Native.Nat.{ℕ, _+_, _*_, _^_, _≤_, _<_}
-use lib.ListN.{getD, set}
+use lib.ListN.{getD}
 use Rattle.rule.specs.Bits.{bit, setBit}
 use Rattle.folding.specs.Fold.{foldCount, placeOf}
 use Rattle.stretches.specs.Stretch.{stretchOf}
-use Rattle.solving.specs.Ready.{Folded}
 
 -- what it costs to ask the flags of S with v first: the nodes that ask v, and the least cost of the rest
 unfoldable pub via : ℕ → List ℕ → List ℕ → ℕ → ℕ → ℕ
@@ -27,14 +26,3 @@ pub record CheapestBelow (k n : ℕ) (w least : List ℕ) (S x v : ℕ) : Type 0
 
 abbrev pub Cheapest : ℕ → List ℕ → List ℕ → ℕ → ℕ → ℕ → Type 0
 Cheapest n w least S x v = CheapestBelow n n w least S x v
-
--- what is left when S is solved: its stretch, its least cost and its first flag
-pub record Solves (n S : ℕ) (w least first y least′ first′ : List ℕ) : Type 0 where
-  pub lowest : ℕ
-  pub member : bit S lowest ≡ 1
-  pub folded : Folded n S lowest w y
-  pub cost : ℕ
-  pub flag : ℕ
-  pub cheapest : Cheapest n y least S cost flag
-  pub least-is : least′ ≡ set least S cost
-  pub first-is : first′ ≡ set first S flag

@@ -1,11 +1,12 @@
--- `solving::step::fold` meets its contract: the stretch that is read is held aside, and the folded one stands in its own place.
+-- `solving::fold` meets its contract: the stretch that is read is held aside, and the folded one stands in its own place.
 -- Assumes nothing.
 use native.Mathlib.Omega.{arith}
 use borrow.Author.Needs.{needs}
 use Rattle.stretches.proofs.Stretches.{part-most}
-use Rattle.solving.proofs.Ready.{ready-small, ready-small-flag, ready-rest, held-within, can-fold-held, folded-held}
-use Rattle.solving.proofs.step.fold.Statement.{statement}
-use Rattle.solving.proofs.step.fold.Tie as tie
+use Rattle.costing.proofs.Ready.{ready-small, ready-small-flag, ready-rest}
+use Rattle.solving.proofs.Held.{held-within, can-fold-held, folded-held}
+use Rattle.solving.proofs.fold.Statement.{statement}
+use Rattle.solving.proofs.fold.Tie as tie
 
 set-bit-requires : tie.Need-set-bit-requires
 set-bit-requires c κs = let p = c .before .pre in (ready-small (p .0), ready-small-flag (p .0) _ (p .1), omega arith)

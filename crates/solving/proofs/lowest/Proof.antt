@@ -1,4 +1,4 @@
--- `solving::step::lowest` meets its contract: no flag passed is in the set, and the set has one.
+-- `solving::lowest` meets its contract: no flag passed is in the set, and the set has one.
 -- Assumes nothing.
 use Prim.Native.Nat.{ℕ, _≤_, _<_, _-_}
 use mathlib.Core.Path.{sym, _∙_}
@@ -9,8 +9,8 @@ use borrow.Author.Count.{below-more}
 use borrow.Author.Needs.{needs}
 use Rattle.rule.specs.Bits.{bit}
 use Rattle.theory.proofs.Sets.{empty, member-lt}
-use Rattle.solving.proofs.step.lowest.Statement.{statement}
-use Rattle.solving.proofs.step.lowest.Tie as tie
+use Rattle.solving.proofs.lowest.Statement.{statement}
+use Rattle.solving.proofs.lowest.Tie as tie
 
 abbrev Inv-loop : tie.InvT-loop
 Inv-loop n set v₀ v = (v ≤ n) × ((u : ℕ) → u < v → bit set u ≢ 1)
