@@ -1,3 +1,4 @@
+pub mod Fill
 pub mod Parts
 pub mod Stretches
 pub mod Starting

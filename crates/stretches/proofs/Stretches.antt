@@ -10,7 +10,7 @@ use native.Mathlib.Omega.{arith}
 use lib.ListN.{length, take, drop}
 use lib.Pow.{pow-mono}
 use Rattle.rule.specs.Sets.{setSize, stretch, stretchAt}
-use Rattle.sets.proofs.Stretches.{stretches-fill}
+use Rattle.stretches.proofs.Fill.{stretches-fill}
 use Rattle.stretches.specs.Stretch.{stretchOf, PartOf}
 use Rattle.stretches.proofs.Parts.{part, part-length, over, over-length, own-part, other-part}
 
