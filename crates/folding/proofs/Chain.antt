@@ -61,7 +61,7 @@ module _ (s : List ℕ) (p : ℕ) where
   pub record Folding (ways : ℕ) (d index : List ℕ) (i : ℕ) : Type 0 where
     pub lent : length d ≡ ways
     pub entered : Indexed s p i index
-    pub settled : (j : ℕ) → j < i → First s p j (getD d j 0)
+    pub firsts : (j : ℕ) → j < i → First s p j (getD d j 0)
 
 module _ {s : List ℕ} {p : ℕ} where
   -- ---- the index
@@ -211,7 +211,7 @@ module _ {s : List ℕ} {p : ℕ} where
   -- ---- one way more
 
   pub folding-none : (d : List ℕ) → Folding s p (length d) d (replicate (heads + links) 0) 0
-  folding-none d = record { lent = refl; entered = index-none; settled = λ j h. absurd (omega arith) }
+  folding-none d = record { lent = refl; entered = index-none; firsts = λ j h. absurd (omega arith) }
 
   pub folding-next : {ways i r : ℕ} {d index next : List ℕ} → i < ways → Folding s p ways d index i → First s p i r → Indexed s p (i + 1) next
       → Folding s p ways (set d i r) next (i + 1)
@@ -219,7 +219,7 @@ module _ {s : List ℕ} {p : ℕ} where
       record {
         lent = length-set d i r ∙ x .lent;
         entered = e;
-        settled = below-more (λ (j : ℕ). First s p j (getD (set d i r) j 0)) i
-            (λ j h. rw (getD-set-other d i j r 0 (omega arith)) (x .settled j h))
+        firsts = below-more (λ (j : ℕ). First s p j (getD (set d i r) j 0)) i
+            (λ j h. rw (getD-set-other d i j r 0 (omega arith)) (x .firsts j h))
             (rw (getD-set-same d i r 0 (omega (arith, x .lent))) f);
       }

@@ -83,10 +83,6 @@ ones-high (suc n) (suc k) x l h = ap (λ (y : ℕ). x % 2 + y) (ones-high n k (x
 pub outside-size : (n set : ℕ) → n ≤ 10 → set < 2 ^ n → length (having 0 n set) ≡ n - setSize set
 outside-size n set l h = omega (arith, length-having n set, ones-high n 10 set l h)
 
--- so a set has at most n
-pub size-most : (n set : ℕ) → n ≤ 10 → set < 2 ^ n → setSize set ≤ n
-size-most n set l h = omega (arith, length-having n set, ones-high n 10 set l h)
-
 -- ---- one flag leaves
 
 from-split : (a v k : ℕ) → from a (v + suc k) ≡ from a v ++ ((a + v) ∷ from (suc (a + v)) k)

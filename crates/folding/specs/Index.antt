@@ -35,9 +35,13 @@ heads = 1024
 abbrev pub links : ℕ
 links = 512
 
+-- what the second code is multiplied by in a hash
+abbrev pub factor : ℕ
+factor = 633
+
 -- The hash of two codes. Nothing rests on how it spreads but the time of a search.
 unfoldable pub hash : ℕ → ℕ → ℕ
-hash low high = (low + high * 633) % heads
+hash low high = (low + high * factor) % heads
 
 abbrev pub hashAt : List ℕ → ℕ → ℕ → ℕ
 hashAt s p i = hash (codeAt s p i 0) (codeAt s p i 1)

@@ -10,14 +10,20 @@ ghost use Rattle.folding.specs.Index.{hash, heads, New, First, Indexed};
 // How many hashes there are.
 const HEADS: usize = 1024;
 
+// The most ways that a stretch can be folded to.
+const LINKS: usize = 512;
+
 // The length of an index: its heads, then a link for each way. All of it is 0 where no way is entered.
-pub const INDEX: usize = 1536;
+pub const INDEX: usize = HEADS + LINKS;
+
+// What the second code is multiplied by in a hash.
+const FACTOR: usize = 633;
 
 // The hash of two codes.
 fn hash(low: u16, high: u16) -> usize
     ensures { λ r. ⌜ (r ≡ hash low high) × (r < heads) ⌝ }
 {
-    ((low as u32 + high as u32 * 633) % 1024) as usize
+    (low as usize + high as usize * FACTOR) % HEADS
 }
 
 // The first way with the codes of way i.
@@ -53,7 +59,7 @@ fn enter(source: &[u16], p: u16, index: &mut [u16; INDEX], i: u16)
 }
 
 // The first way with the codes of way i, which is entered where it is i itself.
-pub fn settle(source: &[u16], p: u16, index: &mut [u16; INDEX], i: u16) -> u16
+pub fn find_or_enter(source: &[u16], p: u16, index: &mut [u16; INDEX], i: u16) -> u16
     requires { ⌜ Foldable (now source) p × (i * 2 < length (now source)) × Indexed (now source) p i (now index) ⌝ }
     ensures { λ r. ⌜ First (now (source .entry)) p i r × Indexed (now (source .entry)) p (i + 1) (now (index .exit)) ⌝ }
 {

@@ -6,5 +6,4 @@ mod ways;
 
 pub use stretch::count;
 pub use stretch::fold;
-pub use ways::insert_bit;
 pub use ways::place_of;

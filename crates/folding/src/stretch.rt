@@ -1,6 +1,6 @@
 // The codes of a set's ways, and the count of those that are nodes.
 use crate::index::INDEX;
-use crate::index::settle;
+use crate::index::find_or_enter;
 use crate::ways::code_at;
 ghost use mathlib.Core.Path.{_≡_};
 ghost use Prim.Native.Nat.{_*_};
@@ -15,7 +15,7 @@ pub fn fold(source: &[u16], p: u16, stretch: &mut [u16])
     let mut index = [0u16; INDEX];
     let mut i: u16 = 0;
     while (i as usize) < stretch.len() {
-        stretch[i as usize] = settle(source, p, &mut index, i);
+        stretch[i as usize] = find_or_enter(source, p, &mut index, i);
         i += 1;
     }
 }

@@ -6,7 +6,7 @@ ghost use Rattle.folding.specs.Fold.{insertBit, placeOf, Foldable};
 ghost use Rattle.folding.specs.Index.{codeAt};
 
 // Way i with one flag more, at place p, fixed to b.
-pub fn insert_bit(i: u16, p: u16, b: u16) -> u16
+fn insert_bit(i: u16, p: u16, b: u16) -> u16
     requires { ⌜ (i < 1024) × (p < 10) × (b < 2) ⌝ }
     ensures { λ r. ⌜ r ≡ insertBit i p b ⌝ }
 {

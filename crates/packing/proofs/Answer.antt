@@ -3,7 +3,7 @@
 use mathlib.Core.Path.{_≡_, refl, sym, ap, ap₂, subst, _∙_}
 use mathlib.Core.Bool.{Bool, true, false, not, _&&_}
 use mathlib.Core.List.{List, [], _∷_, _++_, map}
-use Prim.Native.Nat.{ℕ, zero, suc, _+_, _^_, _≤_, _<_}
+use Prim.Native.Nat.{ℕ, zero, suc, _^_, _≤_, _<_}
 use native.Mathlib.Nat.{sub-zero}
 use native.Mathlib.Omega.{arith}
 use borrow.Author.Tests.{ltb-true, ltb-false, eqb-true, not-false, lt-ltb, le-ltb, eq-eqb, ne-eqb}
@@ -14,7 +14,7 @@ use Rattle.rule.specs.Level.{size}
 use Rattle.rule.specs.Order.{flags, inPlaces, packed, fitOrder}
 use Rattle.rule.specs.Cells.{fitCells, room}
 use Rattle.rule.specs.Refusals.{Row, refusal, firstElse, flagCount, tableLength, tableRead, cells, workspace, result, buildRows, packRows}
-use Rattle.rule.specs.Reply.{Reply, accepted, refused, reply}
+use Rattle.rule.specs.Reply.{accepted, refused, reply}
 use Rattle.rule.specs.Results.{rootBy}
 use Rattle.rule.specs.Calls.{DrawsOr, Build, Pack, workspaceAfter}
 use Rattle.theory.proofs.Orders.{packed-flags, packed-fit}

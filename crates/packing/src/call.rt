@@ -19,7 +19,7 @@ fn lent_refusal(n: u8, table: &[u8], cells: &[u16], workspace: &[u16]) -> u8
     if !cells::fit_cells(cells) {
         return 5;
     }
-    if workspace.len() < searching::cell_count(n) {
+    if workspace.len() < stretches::cell_count(n) {
         return 8;
     }
     0

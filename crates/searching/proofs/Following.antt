@@ -1,7 +1,6 @@
 -- The order that the first flags of all sets give, flag by flag.
 -- Assumes nothing.
 use mathlib.Core.Path.{_≡_, refl, sym, ap, _∙_}
-use mathlib.Core.Logic.{_≢_}
 use mathlib.Core.List.{List, [], _∷_, _++_, append-assoc, append-nil}
 use Prim.Native.Nat.{ℕ, suc, _+_, _-_, _^_, _≤_, _<_}
 use native.Mathlib.Omega.{arith}
@@ -37,22 +36,22 @@ following-none n first =
     }
 
 module _ {n S i : ℕ} {first places : List ℕ} (m : Members n first) (f : Following n first places S i) where
-  pub flag-in : S ≢ 0 → bit S (getD first S 0) ≡ 1
-  flag-in d = m .is S (f .below) d
+  pub flag-in : 0 < S → bit S (getD first S 0) ≡ 1
+  flag-in d = m .is S (f .below) (λ z. omega arith)
 
-  pub flag-small : S ≢ 0 → getD first S 0 < 10
+  pub flag-small : 0 < S → getD first S 0 < 10
   flag-small d = omega (arith, member-lt n S (getD first S 0) (f .below) (flag-in d), m .few)
 
   pub set-small : S < 1024
   set-small = omega (arith, f .below, pow-mono {i = n} {j = 10} (m .few))
 
-  one-more : S ≢ 0 → n - setSize (setBit S (getD first S 0) 0) ≡ suc (n - setSize S)
+  one-more : 0 < S → n - setSize (setBit S (getD first S 0) 0) ≡ suc (n - setSize S)
   one-more d = rest-size n S (getD first S 0) (m .few) (f .below) (member-lt n S (getD first S 0) (f .below) (flag-in d)) (flag-in d)
 
-  pub place-free : S ≢ 0 → i < 10
+  pub place-free : 0 < S → i < 10
   place-free d = omega (arith, f .asked, one-more d, m .few)
 
-  pub following-more : {r : ℕ} → S ≢ 0 → r ≡ setBit S (getD first S 0) 0 → Following n first (set places i (getD first S 0)) r (i + 1)
+  pub following-more : {r : ℕ} → 0 < S → r ≡ setBit S (getD first S 0) 0 → Following n first (set places i (getD first S 0)) r (i + 1)
   following-more {r} d e =
       let v = getD first S 0 in
       let k : 10 - i ≡ suc (10 - (i + 1)) = omega (arith, place-free d) in
@@ -64,7 +63,7 @@ module _ {n S i : ℕ} {first places : List ℕ} (m : Members n first) (f : Foll
             ∙ sym (append-assoc (f .taken) (v ∷ []) (replicate (10 - (i + 1)) 0));
         below = omega (arith, f .below, clear-le S v);
         asked = rw e (omega (arith, f .asked, one-more d));
-        asks = λ rest h. rw append-assoc (f .asks (v ∷ rest) (d, refl, rw e at h));
+        asks = λ rest h. rw append-assoc (f .asks (v ∷ rest) (λ z. omega arith, refl, rw e at h));
       }
 
   pub following-all : S ≡ 0 → Followed n first places

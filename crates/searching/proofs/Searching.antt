@@ -14,22 +14,25 @@ use lib.Pow.{pow-mono, pow-pos}
 use lib.Seq.{length-take-le, getD-set-same, getD-set-other}
 use Rattle.rule.specs.Bits.{bit, setBit}
 use Rattle.rule.specs.Order.{inPlaces}
-use Rattle.rule.specs.Sets.{setAt, stretch, stretchAt}
+use Rattle.rule.specs.Sets.{sets, setAt, stretch, stretchAt}
 use Rattle.theory.proofs.Bits.{bit-same, bit-other, clear-le, clear-lt}
-use Rattle.theory.specs.Sets.{Follows, having}
+use Rattle.theory.specs.Sets.{Follows}
 use Rattle.theory.proofs.Packed.{cost}
 use Rattle.theory.proofs.Search.{bestOf, pickOf, picked, solved, dynamic-packs}
 use Rattle.theory.proofs.Search as search
 use Rattle.theory.proofs.Sets.{full-lt, having-exactly}
-use Rattle.sets.proofs.Sequence.{in-sequence}
+use Rattle.sets.specs.Sequence.{InSequence}
+use Rattle.sets.specs.Post.{SetAt}
 use Rattle.folding.specs.Codes.{Codes}
 use Rattle.folding.proofs.Codes.{codes-table, codes-fold, count-is}
-use Rattle.searching.specs.Stretch.{stretchOf, Placed, PartOf, Ready}
-use Rattle.searching.specs.Choice.{via, Bounded, Solves}
+use Rattle.stretches.specs.Stretch.{stretchOf, Starts, PartOf}
+use Rattle.stretches.proofs.Stretches.{fits, written-length, written-own}
+use Rattle.costing.specs.Ready.{Ready}
+use Rattle.costing.specs.Choice.{via, Bounded}
+use Rattle.costing.proofs.Ready.{ready-flag, ready-rest, ready-kept}
+use Rattle.costing.proofs.Choices.{via-most}
+use Rattle.solving.specs.Solves.{Solves}
 use Rattle.searching.specs.Order.{Asks, Members, Followed, Searched}
-use Rattle.searching.proofs.Stretches.{fits, written-length, written-own}
-use Rattle.searching.proofs.Ready.{ready-flag, ready-rest, ready-kept}
-use Rattle.searching.proofs.Choices.{via-most}
 
 -- ---- the sets passed
 
@@ -44,8 +47,9 @@ done-next i T (inr (j, h, e)) =
     ⊎-elim (λ (q : j ≡ i). inr (ap setAt (sym q) ∙ e)) (λ (q : j < i). inl (inr (j, q, e))) (eq-or-lt-of-le (omega arith))
 
 -- in the end all
-done-all : (S i : ℕ) → S < 1024 → 1024 ≤ i → Done i S
-done-all S i h l = let (j, k, e) = in-sequence .occurs S h in inr (j, omega arith, e)
+done-all : InSequence sets → (S i : ℕ) → S < 1024 → 1024 ≤ i → Done i S
+unfolding setAt
+done-all q S i h l = let (j, k, e) = q .occurs S h in inr (j, omega arith, e)
 
 -- a set whose flags are flags of another, as the list's own test says it
 subset : (d x S : ℕ) → x < 2 ^ d → ((k : ℕ) → bit x k ≤ bit S k) → bitAnd x S ≡ x
@@ -58,11 +62,14 @@ clear-bit S v k (yes e) = rw (← e, bit-same S v 0 (omega arith)) (omega arith)
 clear-bit S v k (no d) = rw (bit-other S v k 0 (omega arith) d) (le-refl _)
 
 -- a set's flags taken singly out of it leave sets that are passed
-done-rest : (i S v : ℕ) → i < 1024 → setAt i ≡ S → S < 1024 → bit S v ≡ 1 → Done i (setBit S v 0)
-done-rest i S v h e k b =
+done-rest : (i S v : ℕ) → i < 1024 → SetAt i S → bit S v ≡ 1 → Done i (setBit S v 0)
+unfolding setAt
+done-rest i S v h a b =
     let l = clear-le S v in
+    let k = a .small in
+    let e = sym (a .is) in
     let within : bitAnd (setBit S v 0) S ≡ setBit S v 0 = subset 10 (setBit S v 0) S (omega arith) (λ j. clear-bit S v j (ℕ-discrete v j)) in
-    inr (in-sequence .subsets i (setBit S v 0) h (omega arith) (rw e within) (λ q. omega (arith, clear-lt S v b)))
+    inr (a .sequence .subsets i (setBit S v 0) h (omega arith) (rw e within) (λ q. omega (arith, clear-lt S v b)))
 
 -- ---- what is known of them
 
@@ -74,8 +81,9 @@ module _ (n : ℕ) (t : List ℕ) where
   abbrev firstOf : ℕ → ℕ
   firstOf S = pickOf (cost n t) n S
 
-  -- the stretches, least costs and first flags of the sets before place i of the list; the workspace was w₀ when the first was solved
+  -- the stretches, least costs and first flags of the sets before place i of the list, which is in sequence; the workspace was w₀ when the first was solved
   pub record Searching (w₀ w least first : List ℕ) (i : ℕ) : Type 0 where
+    pub sequence : 0 < i → InSequence sets
     pub lent : length w ≡ length w₀
     pub room : 3 ^ n ≤ length w
     pub leasts : length least ≡ 1024
@@ -125,6 +133,7 @@ module _ (n : ℕ) (t : List ℕ) (few : n ≤ 10) (fit : length t ≡ 2 ^ n) wh
   searching-none w {ys} l e =
       let k : length ys ≡ stretch n 0 = ap length e ∙ none-stretch in
       record {
+        sequence = λ h. absurd (omega arith);
         lent = refl;
         room = omega (arith, begun-lent w l e);
         leasts = length-replicate {A = ℕ} 1024 0;
@@ -143,14 +152,15 @@ module _ (n : ℕ) (t : List ℕ) (few : n ≤ 10) (fit : length t ≡ 2 ^ n) wh
 
   -- ---- a set that is solved
 
-  module _ {w₀ w least first : List ℕ} {i S : ℕ} (s : Searching n t w₀ w least first i) (h : i < 1024) (e : setAt i ≡ S) where
-    pub ready : {starts : List ℕ} → Placed n starts → S ≢ 0 → S < length t → Ready n S starts w
-    ready p d k = record { placed = p; below = omega (arith, fit); some = d; lent = s .room }
+  module _ {w₀ w least first : List ℕ} {i S : ℕ} (s : Searching n t w₀ w least first i) (h : i < 1024) (a : SetAt i S) where
+    pub ready : {starts : List ℕ} → Starts n starts → S ≢ 0 → S < length t → Ready n S starts w
+    ready p d k = record { started = p; below = omega (arith, fit); some = d; lent = s .room }
 
     -- a set that is passed over: the empty one, or one with flags from n on
     pub searching-pass : (S ≡ 0) ⊎ (length t ≤ S) → Searching n t w₀ w least first (i + 1)
     searching-pass o =
         record {
+          sequence = λ _. a .sequence;
           lent = s .lent;
           room = s .room;
           leasts = s .leasts;
@@ -163,11 +173,11 @@ module _ (n : ℕ) (t : List ℕ) (few : n ≤ 10) (fit : length t ≡ 2 ^ n) wh
       where
         old : (T : ℕ) → T < 2 ^ n → Done i T ⊎ (setAt i ≡ T) → Done i T
         old T k (inl d) = d
-        old T k (inr q) = ⊎-elim (λ (z : S ≡ 0). inl (sym q ∙ e ∙ z)) (λ (z : length t ≤ S). absurd (omega (arith, fit))) o
+        old T k (inr q) = ⊎-elim (λ (z : S ≡ 0). inl (sym q ∙ sym (a .is) ∙ z)) (λ (z : length t ≤ S). absurd (omega (arith, fit, a .is))) o
 
     module _ {starts y least′ first′ : List ℕ} (g : Ready n S starts w) (x : Solves n S w least first y least′ first′) where
       rest-done : (u : ℕ) → bit S u ≡ 1 → Done i (setBit S u 0)
-      rest-done u b = done-rest i S u h e (sets-small few (g .below)) b
+      rest-done u b = done-rest i S u h a b
 
       rest-other : (u : ℕ) → bit S u ≡ 1 → setBit S u 0 ≢ S
       rest-other u b q = omega (arith, clear-lt S u b)
@@ -201,13 +211,13 @@ module _ (n : ℕ) (t : List ℕ) (few : n ≤ 10) (fit : length t ≡ 2 ^ n) wh
           let (p, q) = picked (cost n t) n S (x .flag) up (c .member) in
           let (l, b) = having-exactly 1 n S .sound (firstOf n t S) (p .member) in
           let m = having-exactly 1 n S .whole (x .flag) (c .within, c .member) in
-          let a = via-is-cost (x .flag) (c .member) in
+          let is-cost = via-is-cost (x .flag) (c .member) in
           let d = via-is-cost (firstOf n t S) b in
           let low = c .low (firstOf n t S) l b in
           let up′ = p .least (x .flag) m in
           let is : x .cost ≡ search.via (cost n t) n S (firstOf n t S) = omega (arith, c .is) in (
             is ∙ sym q,
-            le-antisymm (c .first (firstOf n t S) l b (d ∙ sym is)) (p .first (x .flag) m (sym a ∙ sym (c .is) ∙ is)),
+            le-antisymm (c .first (firstOf n t S) l b (d ∙ sym is)) (p .first (x .flag) m (sym is-cost ∙ sym (c .is) ∙ is)),
           )
 
       own-place : S < length least
@@ -222,6 +232,7 @@ module _ (n : ℕ) (t : List ℕ) (few : n ≤ 10) (fit : length t ≡ 2 ^ n) wh
       pub searching-more : Searching n t w₀ y least′ first′ (i + 1)
       searching-more =
           record {
+            sequence = λ _. a .sequence;
             lent = x .folded .lent ∙ s .lent;
             room = omega (arith, x .folded .lent, s .room);
             leasts = ap length (x .least-is) ∙ length-set least S (x .cost) ∙ s .leasts;
@@ -234,7 +245,7 @@ module _ (n : ℕ) (t : List ℕ) (few : n ≤ 10) (fit : length t ≡ 2 ^ n) wh
         where
           old : (T : ℕ) → T ≢ S → Done i T ⊎ (setAt i ≡ T) → Done i T
           old T d (inl z) = z
-          old T d (inr q) = absurd (d (sym q ∙ e))
+          old T d (inr q) = absurd (d (sym q ∙ sym (a .is)))
 
           codes-at : (T : ℕ) → T < 2 ^ n → Done (i + 1) T → Dec (T ≡ S) → Codes n t T (stretchOf n y T)
           codes-at T k d (yes q) = rw q own-codes
@@ -256,7 +267,7 @@ module _ (n : ℕ) (t : List ℕ) (few : n ≤ 10) (fit : length t ≡ 2 ^ n) wh
 
   module _ {w₀ w least first : List ℕ} {i : ℕ} (s : Searching n t w₀ w least first i) (end : 1024 ≤ i) where
     first-all : (S : ℕ) → S < 2 ^ n → S ≢ 0 → getD first S 0 ≡ firstOf n t S
-    first-all S h d = s .first-is S h d (done-all S i (sets-small few h) end)
+    first-all S h d = s .first-is S h d (done-all (s .sequence (omega arith)) S i (sets-small few h) end)
 
     pub members : Members n first
     members =

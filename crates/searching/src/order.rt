@@ -1,10 +1,10 @@
 // The order that the first flags of all sets give.
-use crate::stretch::SETS;
 use rule::Order;
+use stretches::SET_COUNT;
 ghost use Rattle.searching.specs.Order.{Members, Followed};
 
 // From the set of all n flags down to the empty one, each set's first flag.
-pub fn follow(n: u8, first: &[u16; SETS]) -> Order
+pub fn follow(n: u8, first: &[u16; SET_COUNT]) -> Order
     requires { ⌜ Members n (now first) ⌝ }
     ensures { λ r. ⌜ Followed n (now (first .entry)) (r .places) ⌝ }
 {

@@ -1,9 +1,7 @@
 // The recursion over sets (document 001, chapter 3): by the fixed list, so that every subset of a set is solved before it.
 use crate::order::follow;
-use crate::step::solve;
-use crate::stretch;
-use crate::stretch::SETS;
 use rule::Order;
+use stretches::SET_COUNT;
 ghost use mathlib.Core.Path.{_≡_};
 ghost use Prim.Native.Nat.{_≤_, _^_};
 ghost use lib.ListN.{length};
@@ -26,16 +24,16 @@ pub fn search(n: u8, table: &[u8], workspace: &mut [u16]) -> Order
     requires { ⌜ (n ≤ 10) × (length (now table) ≡ 2 ^ n) × (3 ^ n ≤ length (now workspace)) ⌝ }
     ensures { λ r. ⌜ Searched n (now (table .entry)) (now (workspace .entry)) (r .places) (now (workspace .exit)) ⌝ }
 {
-    let places = stretch::places(n);
-    let mut least = [0u32; SETS];
-    let mut first = [0u16; SETS];
+    let starts = stretches::starts(n);
+    let mut least = [0u32; SET_COUNT];
+    let mut first = [0u16; SET_COUNT];
     let rows = table.len();
     begin(table, &mut workspace[0..rows]);
     let mut i = 0;
-    while i < SETS {
+    while i < SET_COUNT {
         let set = sets::set_at(i);
         if set != 0 && (set as usize) < rows {
-            solve(n, set, &places, workspace, &mut least, &mut first);
+            solving::solve(n, set, &starts, workspace, &mut least, &mut first);
         }
         i += 1;
     }

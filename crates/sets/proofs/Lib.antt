@@ -1,4 +1,3 @@
 pub mod Size
 pub mod Rising
 pub mod Sequence
-pub mod Stretches

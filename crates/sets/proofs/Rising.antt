@@ -1,82 +1,70 @@
--- The one test that antt computes, over the definition's list: 1,024 sets below 1024, that rise by size and then by number. (That the code's table is this list
--- is a second computation, in the proof of `set_at`.)
+-- What the test says of a list's members: they rise by size and then by number, and each set of ten flags is among them, once.
 -- Assumes nothing.
-use mathlib.Core.Path.{_≡_}
-use mathlib.Core.Bool.{Bool, true, false, _&&_}
+use mathlib.Core.Path.{_≡_, refl}
+use mathlib.Core.Bool.{true, _&&_}
+use mathlib.Core.Logic.{inl, inr}
 use mathlib.Core.List.{List, [], _∷_}
-use Prim.Native.Nat.{ℕ, zero, suc, _+_, _*_, _<_}
-use native.Mathlib.Nat.{le-of-suc-le-suc, lt-trans}
+use Prim.Native.Nat.{ℕ, _<_}
+use native.Mathlib.Nat.{lt-trans}
 use native.Mathlib.Omega.{arith}
-use lib.Count.{onesIn}
-use lib.Dec.{T, ltb, ltb→lt, eqb, eqb→eq}
-use lib.ListN.{length, getD}
-use Rattle.rule.specs.Bits.{from}
-use Rattle.rule.specs.Tests.{keep}
-use Rattle.rule.specs.Sets.{setSize, ofSize, ofSizes, sets, setAt}
+use borrow.Author.Tests.{ltb-true, eqb-true}
+use lib.Dec.{ltb, eqb}
+use lib.ListN.{length}
+use Rattle.rule.specs.Bits.{below}
+use Rattle.rule.specs.Tests.{each}
+use Rattle.theory.proofs.Member.{In, not-nil, cases-cons}
+use Rattle.theory.proofs.Bits.{in-below, length-from}
+use Rattle.theory.proofs.Tests.{and-split, each-in}
+use Rattle.theory.proofs.Perm.{Once, Exactly, perm-of-length, perm-back}
+use Rattle.theory.proofs.Least.{Pairwise}
+use Rattle.sets.specs.Sequence.{key, climbs, test}
 
--- a set's place: by its size, and then by its number
-unfoldable pub key : ℕ → ℕ
-key x = setSize x * 1024 + x
+abbrev pub Rises : List ℕ → Type 0
+Rises l = Pairwise (λ (x y : ℕ). key x < key y) l
 
--- each set is below 1024, and its key is below the next one's
-abbrev rises : List ℕ → Bool
-rises [] = true
-rises (x ∷ []) = ltb x 1024
-rises (x ∷ y ∷ l) = ltb x 1024 && (ltb (key x) (key y) && rises (y ∷ l))
+climbs-on : (x : ℕ) (l : List ℕ) → climbs (x ∷ l) ≡ true → climbs l ≡ true
+climbs-on x [] t = refl
+climbs-on x (y ∷ l) t = and-split (ltb (key x) (key y)) (climbs (y ∷ l)) t .1
 
-test : T (eqb (length sets) 1024 && rises sets)
-unfolding sets ofSizes ofSize from keep key onesIn
-test = tt
+later : (x : ℕ) (l : List ℕ) → climbs (x ∷ l) ≡ true → (y : ℕ) → In y l → key x < key y
+later x [] t y m = absurd (not-nil m)
+later x (z ∷ l) t y m =
+    let next = ltb-true _ _ (and-split (ltb (key x) (key z)) (climbs (z ∷ l)) t .0) in
+    elim (cases-cons m) [ inl e ↦ rw e next | inr k ↦ lt-trans next (later z l (climbs-on x (z ∷ l) t) y k) ]
 
--- ---- what the test says at each place
+climbing : (l : List ℕ) → climbs l ≡ true → Rises l
+climbing [] t = tt
+climbing (x ∷ l) t = (later x l t, climbing l (climbs-on x l t))
 
-left : (a b : Bool) → T (a && b) → T a
-left true b t = tt
-left false b t = t
+rises-once : (l : List ℕ) → Rises l → Once l
+rises-once [] r = tt
+rises-once (x ∷ l) r = (λ m. omega (arith, r .0 x m), rises-once l (r .1))
 
-right : (a b : Bool) → T (a && b) → T b
-right true b t = t
-right false b t = absurd t
+module _ (l : List ℕ) (t : test l ≡ true) where
+  parts : (length l ≡ 1024) × (each (λ x. ltb x 1024) l ≡ true) × (climbs l ≡ true)
+  parts =
+      let (a, b) = and-split (eqb (length l) 1024) (each (λ x. ltb x 1024) l && climbs l) t in
+      let (c, d) = and-split (each (λ x. ltb x 1024) l) (climbs l) b in
+      (eqb-true _ _ a, c, d)
 
-head-small : (x : ℕ) (l : List ℕ) → T (rises (x ∷ l)) → x < 1024
-head-small x [] t = ltb→lt _ _ t
-head-small x (y ∷ l) t = ltb→lt _ _ (left (ltb x 1024) _ t)
+  pub length-is : length l ≡ 1024
+  length-is = parts .0
 
-tail-rises : (x : ℕ) (l : List ℕ) → T (rises (x ∷ l)) → T (rises l)
-tail-rises x [] t = tt
-tail-rises x (y ∷ l) t = right (ltb (key x) (key y)) _ (right (ltb x 1024) _ t)
+  pub rises : Rises l
+  rises = climbing l (parts .2)
 
-small : (l : List ℕ) → T (rises l) → (i : ℕ) → i < length l → getD l i 0 < 1024
-small [] t i h = let z : ⊥ = omega arith in absurd z
-small (x ∷ l) t zero h = head-small x l t
-small (x ∷ l) t (suc i) h = small l (tail-rises x l t) i (le-of-suc-le-suc h)
+  small : (x : ℕ) → In x l → x < 1024
+  small x m = ltb-true x 1024 (each-in (λ x. ltb x 1024) l (parts .1) m)
 
-next-later : (x y : ℕ) (l : List ℕ) → T (rises (x ∷ y ∷ l)) → key x < key y
-next-later x y l t = ltb→lt _ _ (left (ltb (key x) (key y)) _ (right (ltb x 1024) _ t))
-
--- the first key is below all that come later
-later : (x : ℕ) (l : List ℕ) → T (rises (x ∷ l)) → (j : ℕ) → j < length l → key x < key (getD l j 0)
-later x [] t j h = let z : ⊥ = omega arith in absurd z
-later x (y ∷ l) t zero h = next-later x y l t
-later x (y ∷ l) t (suc j) h = lt-trans (next-later x y l t) (later y l (tail-rises x (y ∷ l) t) j (le-of-suc-le-suc h))
-
-rising : (l : List ℕ) → T (rises l) → (i j : ℕ) → i < j → j < length l → key (getD l i 0) < key (getD l j 0)
-rising [] t i j h g = let z : ⊥ = omega arith in absurd z
-rising (x ∷ l) t i zero h g = let z : ⊥ = omega arith in absurd z
-rising (x ∷ l) t zero (suc j) h g = later x l t j (le-of-suc-le-suc g)
-rising (x ∷ l) t (suc i) (suc j) h g = rising l (tail-rises x l t) i j (le-of-suc-le-suc h) (le-of-suc-le-suc g)
-
-pub length-sets : length sets ≡ 1024
-length-sets = eqb→eq _ _ (left (eqb (length sets) 1024) (rises sets) test)
-
-sets-rise : T (rises sets)
-sets-rise = right (eqb (length sets) 1024) (rises sets) test
-
-pub set-small : (i : ℕ) → i < 1024 → setAt i < 1024
-unfolding setAt
-set-small i h = small sets sets-rise i (omega (arith, length-sets))
-
--- sizes rise, and within a size the numbers
-pub set-rising : (i j : ℕ) → i < j → j < 1024 → key (setAt i) < key (setAt j)
-unfolding setAt
-set-rising i j h g = rising sets sets-rise i j h (omega (arith, length-sets))
+  -- as many sets as there are, and none twice: none is missing
+  pub exact : Exactly (λ x. x < 1024) l
+  exact =
+      record {
+        once = rises-once l rises;
+        sound = small;
+        whole = λ x h.
+            perm-back
+            (perm-of-length l (below 1024) (rises-once l rises) (λ y m. in-below (small y m)) (omega (arith, length-is, length-from 0 1024)))
+            x
+            (in-below h);
+      }

@@ -6,6 +6,7 @@ use native.Mathlib.Nat.{pow-suc}
 use native.Mathlib.Omega.{arith}
 use lib.Bits.{bitAnd, and-step}
 use lib.Count.{ones, onesIn, ones-step, ones-le}
+use lib.Pow.{pow-mono}
 
 pub ones-in : (d x : ℕ) → x < 2 ^ d → ones x ≡ onesIn d x
 unfolding ones onesIn
@@ -40,6 +41,6 @@ whole (suc d) a b h g e c =
     let top : a / 2 ≡ b / 2 = whole d (a / 2) (b / 2) (omega arith) (omega arith) (halves a b e) same in
     omega arith
 
--- ten flags at most
-pub size-le : (x : ℕ) → x < 1024 → onesIn 10 x < 11
-size-le x h = omega (arith, ones-le 10 x h, ones-in 10 x h)
+-- a set of flags below n has at most n
+pub size-most : (n x : ℕ) → n ≤ 10 → x < 2 ^ n → onesIn 10 x ≤ n
+size-most n x few h = omega (arith, ones-le n x h, ones-in 10 x (omega (arith, pow-mono {i = n} {j = 10} few)))

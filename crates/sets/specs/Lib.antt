@@ -1,2 +1,2 @@
-pub mod Post
 pub mod Sequence
+pub mod Post

@@ -16,9 +16,16 @@ heads = 4096
 abbrev pub links : ℕ
 links = 1024
 
+-- what the flag and the high node are multiplied by in a hash
+abbrev pub flagFactor : ℕ
+flagFactor = 349
+
+abbrev pub highFactor : ℕ
+highFactor = 633
+
 -- The hash of a flag, a low and a high node. Nothing rests on how it spreads but the time of a search.
 unfoldable pub hash : ℕ → ℕ → ℕ → ℕ
-hash flag low high = (flag * 349 + low + high * 633) % heads
+hash flag low high = (flag * flagFactor + low + high * highFactor) % heads
 
 -- of record k
 abbrev pub hashAt : List ℕ → ℕ → ℕ

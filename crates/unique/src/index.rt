@@ -3,25 +3,33 @@
 ghost use mathlib.Core.Path.{_≡_};
 ghost use Prim.Native.Nat.{_+_, _≤_, _<_};
 ghost use Rattle.rule.specs.Cells.{room};
-ghost use Rattle.unique.specs.Index.{hash, heads, Indexed};
+ghost use Rattle.unique.specs.Index.{hash, heads, links, Indexed};
 ghost use Rattle.unique.specs.Node.{Finds};
 
 // How many hashes there are: some more than records, so that most chains are empty.
 const HEADS: usize = 4096;
 
+// The most records that cells can hold.
+const LINKS: usize = 1024;
+
 // The length of an index: its heads, then a link for each record. All of it is 0 where no record is used.
-pub const INDEX: usize = 5120;
+pub const INDEX: usize = HEADS + LINKS;
+
+// What the flag and the high node are multiplied by in a hash.
+const FLAG_FACTOR: usize = 349;
+
+const HIGH_FACTOR: usize = 633;
 
 // The hash of a record.
 fn hash(flag: u16, low: u16, high: u16) -> usize
     ensures { λ r. ⌜ (r ≡ hash flag low high) × (r < heads) ⌝ }
 {
-    ((flag as u32 * 349 + low as u32 + high as u32 * 633) % 4096) as usize
+    (flag as usize * FLAG_FACTOR + low as usize + high as usize * HIGH_FACTOR) % HEADS
 }
 
 // A used record that is these three, or the number of them where none is.
 pub fn find(cells: &[u16], index: &[u16; INDEX], used: u16, flag: u16, low: u16, high: u16) -> u16
-    requires { ⌜ (used ≤ room (now cells)) × (room (now cells) ≤ 1024) × Indexed (now cells) used (now index) ⌝ }
+    requires { ⌜ (used ≤ room (now cells)) × (room (now cells) ≤ links) × Indexed (now cells) used (now index) ⌝ }
     ensures { λ r. ⌜ Finds (now (cells .entry)) used flag low high r ⌝ }
 {
     let mut at = index[hash(flag, low, high)];
@@ -41,7 +49,7 @@ pub fn find(cells: &[u16], index: &[u16; INDEX], used: u16, flag: u16, low: u16,
 
 // Enters record k, behind those that are entered.
 pub fn enter(cells: &[u16], index: &mut [u16; INDEX], k: u16)
-    requires { ⌜ (k < room (now cells)) × (room (now cells) ≤ 1024) × Indexed (now cells) k (now index) ⌝ }
+    requires { ⌜ (k < room (now cells)) × (room (now cells) ≤ links) × Indexed (now cells) k (now index) ⌝ }
     ensures { λ _. ⌜ Indexed (now (cells .entry)) (k + 1) (now (index .exit)) ⌝ }
 {
     let h = hash(

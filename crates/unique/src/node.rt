@@ -3,7 +3,7 @@ use crate::index::enter;
 use crate::index::find;
 ghost use Prim.Native.Nat.{_≤_};
 ghost use Rattle.rule.specs.Cells.{room};
-ghost use Rattle.unique.specs.Index.{Indexed};
+ghost use Rattle.unique.specs.Index.{links, Indexed};
 ghost use Rattle.unique.specs.Node.{foundReply, MakesNode};
 
 // What was found of a node: its number, or that there is no room for its record.
@@ -27,7 +27,7 @@ pub fn make(
     low: u16,
     high: u16,
 ) -> Grown
-    requires { ⌜ (used ≤ room (now cells)) × (room (now cells) ≤ 1024) × Indexed (now cells) used (now index) ⌝ }
+    requires { ⌜ (used ≤ room (now cells)) × (room (now cells) ≤ links) × Indexed (now cells) used (now index) ⌝ }
     ensures { λ r. ⌜ MakesNode (now (cells .entry)) used flag low high (r .used) (foundReply (r .found)) (now (cells .exit))
         × Indexed (now (cells .exit)) (r .used) (now (index .exit)) ⌝ }
 {

@@ -12,4 +12,4 @@ unfolding hash
 returns c = (refl, hash-lt _ _)
 
 pub hash-spec : {M : Type 1} → statement M
-hash-spec = tie.close (tie.spec (λ c. search needs) (λ c. search needs) (λ c. search needs) returns)
+hash-spec = tie.close (tie.spec (λ c. search needs) (λ c. search needs) returns)

@@ -18,8 +18,8 @@ abbrev μ-loop : tie.MeasureT-loop
 loop-holds : tie.Need-loop-holds Inv-loop μ-loop
 loop-holds c = (omega arith, folding-none _)
 
-settle-requires : tie.Need-settle-requires Inv-loop μ-loop
-settle-requires c κs =
+find-or-enter-requires : tie.Need-find-or-enter-requires Inv-loop μ-loop
+find-or-enter-requires c κs =
     let at = c .before .before .loop .inv .1 in
     let s = c .before .before .before .before .before .pre in
     (s .0, omega (arith, s .1, at .lent), at .entered)
@@ -36,7 +36,7 @@ loop-less c = omega (arith, c .before .before .before .loop .inv .1 .lent)
 loop-again : tie.Need-loop-again Inv-loop μ-loop
 loop-again c =
     let at = c .before .before .before .loop .inv .1 in
-    let e = c .settle .ensures in
+    let e = c .find-or-enter .ensures in
     (omega (arith, at .lent), folding-next (omega (arith, at .lent)) at (e .0) (e .1))
 
 same-length : tie.Need-same-length Inv-loop μ-loop
@@ -46,7 +46,7 @@ returns : tie.Need-returns Inv-loop μ-loop
 returns c =
     let x = c .before .loop .inv .1 in
     let s = c .before .before .before .before .pre in
-    folded _ (omega (arith, s .1, x .lent)) (λ i h. x .settled i (omega (arith, x .lent)))
+    folded _ (omega (arith, s .1, x .lent)) (λ i h. x .firsts i (omega (arith, x .lent)))
 
 pub fold-spec : {M : Type 1} → statement M
 fold-spec =
@@ -56,7 +56,7 @@ fold-spec =
     μ-loop
     loop-holds
     (λ c. search needs)
-    settle-requires
+    find-or-enter-requires
     (λ c. search needs)
     (λ c. search needs)
     (λ c. search needs)

@@ -30,34 +30,34 @@ element-copy-out-v c = set-small (c .before .before .before .pre) (c .before .lo
 cast-places : tie.Need-cast-places Inv-loop μ-loop
 cast-places c =
     let at = c .before .before in
-    omega (arith, flag-small (at .before .before .pre) (at .loop .inv) (c .before .loop-test .taken))
+    omega (arith, flag-small (at .before .before .pre) (at .loop .inv) (omega (arith, c .before .loop-test .taken)))
 
 array-write-places : tie.Need-array-write-places Inv-loop μ-loop
-array-write-places c = let at = c .before .before in place-free (at .before .before .pre) (at .loop .inv) (c .before .loop-test .taken)
+array-write-places c = let at = c .before .before in place-free (at .before .before .pre) (at .loop .inv) (omega (arith, c .before .loop-test .taken))
 
 set-bit-requires : tie.Need-set-bit-requires Inv-loop μ-loop
 set-bit-requires c κs =
     let at = c .before .before in
     let m = at .before .before .pre in
-    (set-small m (at .loop .inv), flag-small m (at .loop .inv) (c .before .loop-test .taken), omega arith)
+    (set-small m (at .loop .inv), flag-small m (at .loop .inv) (omega (arith, c .before .loop-test .taken)), omega arith)
 
 add-i : tie.Need-add-i Inv-loop μ-loop
 add-i c =
     let at = c .before .before .before in
-    omega (arith, place-free (at .before .before .pre) (at .loop .inv) (c .before .before .loop-test .taken))
+    omega (arith, place-free (at .before .before .pre) (at .loop .inv) (omega (arith, c .before .before .loop-test .taken)))
 
 loop-less : tie.Need-loop-less Inv-loop μ-loop
 loop-less c =
     let at = c .before .before .before in
-    omega (arith, c .set-bit .ensures, clear-lt _ _ (flag-in (at .before .before .pre) (at .loop .inv) (c .before .before .loop-test .taken)))
+    omega (arith, c .set-bit .ensures, clear-lt _ _ (flag-in (at .before .before .pre) (at .loop .inv) (omega (arith, c .before .before .loop-test .taken))))
 
 loop-again : tie.Need-loop-again Inv-loop μ-loop
 loop-again c =
     let at = c .before .before .before in
-    following-more (at .before .before .pre) (at .loop .inv) (c .before .before .loop-test .taken) (c .set-bit .ensures)
+    following-more (at .before .before .pre) (at .loop .inv) (omega (arith, c .before .before .loop-test .taken)) (c .set-bit .ensures)
 
 returns : tie.Need-returns Inv-loop μ-loop
-returns c = following-all (c .before .before .before .pre) (c .before .loop .inv) (c .loop-test .left)
+returns c = following-all (c .before .before .before .pre) (c .before .loop .inv) (omega (arith, c .loop-test .left))
 
 pub follow-spec : {M : Type 1} → statement M
 follow-spec =

@@ -1,7 +1,7 @@
 -- `searching::recursion::search` meets its contract: the sets before place i of the list are solved.
 -- Assumes nothing.
 use Prim.Native.Nat.{_≤_, _-_}
-use mathlib.Core.Path.{sym, _∙_}
+use mathlib.Core.Path.{_∙_}
 use mathlib.Core.Logic.{inl, inr, ⊎-elim}
 use native.Mathlib.Omega.{arith}
 use borrow.Author.Needs.{needs}
@@ -11,10 +11,10 @@ use Rattle.searching.proofs.recursion.search.Statement.{statement}
 use Rattle.searching.proofs.recursion.search.Tie as tie
 
 abbrev Inv-loop : tie.InvT-loop
-Inv-loop n table workspace₀ places least₀ first₀ rows i₀ workspace least first i = Searching n table workspace₀ workspace least first i × (i ≤ 1024)
+Inv-loop n table workspace₀ starts least₀ first₀ rows i₀ workspace least first i = Searching n table workspace₀ workspace least first i × (i ≤ 1024)
 
 abbrev μ-loop : tie.MeasureT-loop
-μ-loop n table workspace₀ places least₀ first₀ rows i₀ workspace least first i = 1024 - i
+μ-loop n table workspace₀ starts least₀ first₀ rows i₀ workspace least first i = 1024 - i
 
 part-begin-end : tie.Need-part-begin-end Inv-loop μ-loop
 part-begin-end c =
@@ -36,22 +36,22 @@ solve-requires : tie.Need-solve-requires Inv-loop μ-loop
 solve-requires c κs =
     let solving = c .before .before .before .before in
     let at = solving .before .before .before .before in
-    let placed = at .before .before .before .before .before in
-    let p = placed .before .before .before .pre in
+    let started = at .before .before .before .before .before in
+    let p = started .before .before .before .pre in
     let s = at .loop .inv .0 in
-    (ready _ _ (p .0) (p .1) s (solving .before .before .before .loop-test .taken) (sym (solving .before .before .set-at .ensures .is)) (placed .places .ensures) (solving .before .if1 .taken) (ltb-true _ _ (solving .if2 .taken)), s .bounded)
+    (ready _ _ (p .0) (p .1) s (solving .before .before .before .loop-test .taken) (solving .before .before .set-at .ensures) (started .starts .ensures) (solving .before .if1 .taken) (ltb-true _ _ (solving .if2 .taken)), s .bounded)
 
 loop-again : tie.Need-loop-again Inv-loop μ-loop
 loop-again c =
     let at = c .before .before .before in
-    let placed = at .before .before .before .before .before in
-    let p = placed .before .before .before .pre in
+    let started = at .before .before .before .before .before in
+    let p = started .before .before .before .pre in
     let s = at .loop .inv .0 in
     let h = c .before .before .loop-test .taken in
-    let e = sym (c .before .set-at .ensures .is) in (
+    let a = c .before .set-at .ensures in (
       ⊎-elim
-          (λ w. rw (w .9, w .10, w .11) (searching-more _ _ (p .0) (p .1) s h e (ready _ _ (p .0) (p .1) s h e (placed .places .ensures) (w .0 .taken) (ltb-true _ _ (w .1 .taken))) (w .6 .ensures)))
-          (λ w. rw (w .1, w .2, w .3) (searching-pass _ _ (p .0) (p .1) s h e (⊎-elim (λ x. inr (ltb-false _ _ (x .1 .left))) (λ x. inl (x .left)) (w .0 .came))))
+          (λ w. rw (w .9, w .10, w .11) (searching-more _ _ (p .0) (p .1) s h a (ready _ _ (p .0) (p .1) s h a (started .starts .ensures) (w .0 .taken) (ltb-true _ _ (w .1 .taken))) (w .6 .ensures)))
+          (λ w. rw (w .1, w .2, w .3) (searching-pass _ _ (p .0) (p .1) s h a (⊎-elim (λ x. inr (ltb-false _ _ (x .1 .left))) (λ x. inl (x .left)) (w .0 .came))))
           (c .if1 .came),
       omega arith,
     )
