@@ -12,7 +12,7 @@ use Rattle.rule.specs.Bits.{bit, below}
 use Rattle.rule.specs.Tests.{each}
 use Rattle.rule.specs.Order.{places, inPlaces, rising, fitOrder}
 use Rattle.rule.specs.Cells.{room}
-use Rattle.rule.specs.Files.{Reading, stop, go, unless, nothingRead, recordAt, twoAt, printable, readFlags, readOrder, readLabel, readRecords}
+use Rattle.rule.specs.Files.{recordsBit, yesBit, mapEnd, longestLabel, countSize, recordSize, Reading, stop, go, unless, nothingRead, recordAt, twoAt, printable, readFlags, readOrder, readLabel, readRecords}
 use Rattle.fields.specs.Step.{mapRead}
 
 -- ---- the bit map
@@ -31,18 +31,18 @@ module _ (file : List ℕ) where
   map-end h = rw (lt-ltb (length file) 1 h)
 
   module _ (h : 1 ≤ length file) where
-    pub map-high : 32 ≤ getD file 0 0 → mapRead file ≡ stop 12
+    pub map-high : mapEnd ≤ getD file 0 0 → mapRead file ≡ stop 12
     unfolding mapRead unless
-    map-high g = rw (le-ltb (length file) 1 h, le-leb 32 (getD file 0 0) g)
+    map-high g = rw (le-ltb (length file) 1 h, le-leb mapEnd (getD file 0 0) g)
 
-    module _ (g : getD file 0 0 < 32) where
-      pub map-both : bit (getD file 0 0) 3 ≡ 1 → bit (getD file 0 0) 4 ≡ 1 → mapRead file ≡ stop 12
+    module _ (g : getD file 0 0 < mapEnd) where
+      pub map-both : bit (getD file 0 0) recordsBit ≡ 1 → bit (getD file 0 0) yesBit ≡ 1 → mapRead file ≡ stop 12
       unfolding mapRead unless
-      map-both p q = rw (le-ltb (length file) 1 h, lt-leb 32 (getD file 0 0) g, p, q)
+      map-both p q = rw (le-ltb (length file) 1 h, lt-leb mapEnd (getD file 0 0) g, p, q)
 
-      pub map-without : (bit (getD file 0 0) 3 ≡ 1 → bit (getD file 0 0) 4 ≡ 1 → ⊥) → mapRead file ≡ go nothingRead
+      pub map-without : (bit (getD file 0 0) recordsBit ≡ 1 → bit (getD file 0 0) yesBit ≡ 1 → ⊥) → mapRead file ≡ go nothingRead
       unfolding mapRead unless
-      map-without d = rw (le-ltb (length file) 1 h, lt-leb 32 (getD file 0 0) g, not-both (bit (getD file 0 0) 3) (bit (getD file 0 0) 4) d)
+      map-without d = rw (le-ltb (length file) 1 h, lt-leb mapEnd (getD file 0 0) g, not-both (bit (getD file 0 0) recordsBit) (bit (getD file 0 0) yesBit) d)
 
 -- ---- n
 
@@ -90,14 +90,14 @@ module _ (file : List ℕ) (x : Reading) where
     unfolding readLabel unless
     label-none g = rw (le-ltb (length file) (x .at + 1) (omega arith), g)
 
-    module _ (g : getD file (x .at) 0 ≡ 0 → ⊥) (short : getD file (x .at) 0 < 256) where
+    module _ (g : getD file (x .at) 0 ≡ 0 → ⊥) (short : getD file (x .at) 0 ≤ longestLabel) where
       pub label-past : length file < x .at + 1 + getD file (x .at) 0 → readLabel file x ≡ stop 11
       unfolding readLabel unless
       label-past p =
           rw (
             le-ltb (length file) (x .at + 1) (omega arith),
             ne-eqb (getD file (x .at) 0) 0 g,
-            le-ltb 255 (getD file (x .at) 0) (omega arith),
+            le-ltb longestLabel (getD file (x .at) 0) (omega arith),
             lt-ltb (length file) (x .at + 1 + getD file (x .at) 0) p,
           )
 
@@ -113,7 +113,7 @@ module _ (file : List ℕ) (x : Reading) where
             rw (
               le-ltb (length file) (x .at + 1) (omega arith),
               ne-eqb (getD file (x .at) 0) 0 g,
-              le-ltb 255 (getD file (x .at) 0) (omega arith),
+              le-ltb longestLabel (getD file (x .at) 0) (omega arith),
               le-ltb (length file) (x .at + 1 + getD file (x .at) 0) p,
               sym is-printable ∙ not-true a q,
             )
@@ -126,7 +126,7 @@ module _ (file : List ℕ) (x : Reading) where
             rw (
               le-ltb (length file) (x .at + 1) (omega arith),
               ne-eqb (getD file (x .at) 0) 0 g,
-              le-ltb 255 (getD file (x .at) 0) (omega arith),
+              le-ltb longestLabel (getD file (x .at) 0) (omega arith),
               le-ltb (length file) (x .at + 1 + getD file (x .at) 0) p,
               sym is-printable ∙ not-false a q,
             )
@@ -134,41 +134,41 @@ module _ (file : List ℕ) (x : Reading) where
 -- ---- the records
 
 module _ (c file : List ℕ) (x : Reading) where
-  pub records-end : length file < x .at + 2 → readRecords c file x ≡ stop 11
+  pub records-end : length file < x .at + countSize → readRecords c file x ≡ stop 11
   unfolding readRecords unless
-  records-end h = rw (lt-ltb (length file) (x .at + 2) h)
+  records-end h = rw (lt-ltb (length file) (x .at + countSize) h)
 
-  module _ (h : x .at + 2 ≤ length file) {count : ℕ} (e : count ≡ twoAt file (x .at)) where
+  module _ (h : x .at + countSize ≤ length file) {count : ℕ} (e : count ≡ twoAt file (x .at)) where
     pub records-none : count ≡ 0 → readRecords c file x ≡ stop 6
     unfolding readRecords unless
-    records-none g = rw (le-ltb (length file) (x .at + 2) h, ← e, g)
+    records-none g = rw (le-ltb (length file) (x .at + countSize) h, ← e, g)
 
     module _ (g : count ≡ 0 → ⊥) where
       pub records-many : room c < count → readRecords c file x ≡ stop 10
       unfolding readRecords unless
-      records-many p = rw (le-ltb (length file) (x .at + 2) h, ← e, ne-eqb count 0 g, lt-ltb (room c) count p)
+      records-many p = rw (le-ltb (length file) (x .at + countSize) h, ← e, ne-eqb count 0 g, lt-ltb (room c) count p)
 
       module _ (p : count ≤ room c) where
-        pub records-past : length file < x .at + 2 + count * 5 → readRecords c file x ≡ stop 11
+        pub records-past : length file < x .at + countSize + count * recordSize → readRecords c file x ≡ stop 11
         unfolding readRecords unless
         records-past q =
             rw (
-              le-ltb (length file) (x .at + 2) h,
+              le-ltb (length file) (x .at + countSize) h,
               ← e,
               ne-eqb count 0 g,
               le-ltb (room c) count p,
-              lt-ltb (length file) (x .at + 2 + count * 5) q,
+              lt-ltb (length file) (x .at + countSize + count * recordSize) q,
             )
 
-        pub records-read : x .at + 2 + count * 5 ≤ length file
+        pub records-read : x .at + countSize + count * recordSize ≤ length file
             → readRecords c file x
-            ≡ go (record { n = x .n; places = x .places; label = x .label; records = map (recordAt file (x .at + 2)) (below count); at = x .at + 2 + count * 5 })
+            ≡ go (record { n = x .n; places = x .places; label = x .label; records = map (recordAt file (x .at + countSize)) (below count); at = x .at + countSize + count * recordSize })
         unfolding readRecords unless
         records-read q =
             rw (
-              le-ltb (length file) (x .at + 2) h,
+              le-ltb (length file) (x .at + countSize) h,
               ← e,
               ne-eqb count 0 g,
               le-ltb (room c) count p,
-              le-ltb (length file) (x .at + 2 + count * 5) q,
+              le-ltb (length file) (x .at + countSize + count * recordSize) q,
             )

@@ -11,7 +11,7 @@ use Rattle.rule.specs.Bits.{bit}
 use Rattle.rule.specs.Files.{Reading, Outcome, stop, go, andThen, readOr, fieldIf}
 use Rattle.theory.proofs.Bits.{bit-lt}
 use Rattle.fields.specs.declared.step.Step.{Step}
-use Rattle.fields.specs.Step.{nothing, readingOf, outcomeOf, Before, Whole}
+use Rattle.fields.specs.Step.{refused, readingOf, outcomeOf, Before, Whole}
 
 -- ---- outcomes
 
@@ -56,7 +56,7 @@ module _ (file : List ℕ) (map i : ℕ) (field : Reading → Outcome) (s : Step
         by (suc k) b g = absurd (true≢false (sym g ∙ rw (ne-eqb (suc k) 0 (λ (q : suc k ≡ 0). omega arith))))
 
     -- the field is refused
-    pub refuses : (k : ℕ) {r : Step} → r ≡ nothing k 0 → 0 < k → field (readingOf file (s .cursor)) ≡ stop k
+    pub refuses : (k : ℕ) {r : Step} → r ≡ refused k → 0 < k → field (readingOf file (s .cursor)) ≡ stop k
         → outcomeOf file r ≡ andThen (outcomeOf file s) (fieldIf (bit map i) field)
     refuses k g h q = ap (outcomeOf file) g ∙ refused-is k _ h ∙ sym (entered ∙ q)
 
@@ -66,14 +66,14 @@ module _ (file : List ℕ) (map i : ℕ) (field : Reading → Outcome) (s : Step
 
 -- ---- where a step stands
 
-pub nothing-before : (file : List ℕ) (k : ℕ) {r : Step} → r ≡ nothing k 0 → Before file (r .cursor)
-nothing-before file k e = rw e (record { few = omega arith; reached = omega arith; label = omega arith; start = refl; none = refl })
+pub refused-before : (file : List ℕ) (k : ℕ) {r : Step} → r ≡ refused k → Before file (r .cursor)
+refused-before file k e = rw e (record { few = omega arith; reached = omega arith; label = omega arith; start = refl; none = refl })
 
-pub nothing-whole : (c file : List ℕ) (k : ℕ) {r : Step} → r ≡ nothing k 0 → Whole c file (r .cursor)
-nothing-whole c file k e = rw e (record { few = omega arith; reached = omega arith; label = omega arith; records = omega arith; held = omega arith })
+pub refused-whole : (c file : List ℕ) (k : ℕ) {r : Step} → r ≡ refused k → Whole c file (r .cursor)
+refused-whole c file k e = rw e (record { few = omega arith; reached = omega arith; label = omega arith; records = omega arith; held = omega arith })
 
 -- it is not read on
-pub never : (k : ℕ) {r : Step} → r ≡ nothing k 0 → 0 < k → r .refused ≡ 0 → ⊥
+pub never : (k : ℕ) {r : Step} → r ≡ refused k → 0 < k → r .refused ≡ 0 → ⊥
 never k e h z = let q : k ≡ 0 = sym (ap (λ (r : Step). r .refused) e) ∙ z in omega arith
 
 pub before-whole : (c file : List ℕ) (s : Step) → Before file (s .cursor) → Whole c file (s .cursor)

@@ -3,19 +3,25 @@
 use mathlib.Core.Path.{_≡_}
 use mathlib.Core.List.{List, [], _∷_, map}
 use Prim.Native.Nat.{ℕ, _+_, _*_, _≤_}
-use lib.ListN.{length, getD, replicate}
+use lib.ListN.{length, getD}
 use Rattle.rule.specs.Bits.{bit, below}
+use Rattle.rule.specs.Order.{rising}
 use Rattle.rule.specs.Cells.{room}
-use Rattle.rule.specs.Files.{Reading, Outcome, andThen, readOr, unless, fieldIf, nothingRead, pastEnd, fileMap, recordAt, readFlags, readOrder, readLabel, readRecords}
+use Rattle.rule.specs.Files.{flagsBit, orderBit, labelBit, recordsBit, recordSize, Reading, Outcome, andThen, readOr, unless, fieldIf, nothingRead, pastEnd, fileMap, recordAt, readFlags, readOrder, readLabel, readRecords}
 use Rattle.fields.specs.declared.step.Cursor.{Cursor}
 use Rattle.fields.specs.declared.step.Step.{Step}
 
-abbrev pub nothing : ℕ → ℕ → Step
-nothing number at =
-    record {
-      refused = number;
-      cursor = record { n = 0; order = record { places = replicate 10 0 }; label = 0; size = 0; records = 0; count = 0; at = at };
-    }
+-- no field read, up to a place: what absent fields mean
+abbrev pub nothing : ℕ → Cursor
+nothing at = record { n = 0; order = record { places = rising 0 }; label = 0; size = 0; records = 0; count = 0; at = at }
+
+-- refused under a number
+abbrev pub refused : ℕ → Step
+refused number = record { refused = number; cursor = nothing 0 }
+
+-- the bit map is read, and no field yet
+abbrev pub start : Step
+start = record { refused = 0; cursor = nothing 1 }
 
 -- what a file says up to a cursor
 abbrev pub readingOf : List ℕ → Cursor → Reading
@@ -44,7 +50,7 @@ pub record Whole (c file : List ℕ) (x : Cursor) : Type 0 where
   pub few : x .n ≤ 10
   pub reached : x .at ≤ length file
   pub label : x .label + x .size ≤ length file
-  pub records : x .records + x .count * 5 ≤ length file
+  pub records : x .records + x .count * recordSize ≤ length file
   pub held : x .count ≤ room c
 
 -- a step is this outcome
@@ -66,6 +72,6 @@ fieldsRead c file =
     let map = getD file 0 0 in
     andThen
     (andThen
-    (andThen (andThen (mapRead file) (fieldIf (bit map 0) (readFlags file))) (fieldIf (bit map 1) (readOrder file)))
-    (fieldIf (bit map 2) (readLabel file)))
-    (fieldIf (bit map 3) (readRecords c file))
+    (andThen (andThen (mapRead file) (fieldIf (bit map flagsBit) (readFlags file))) (fieldIf (bit map orderBit) (readOrder file)))
+    (fieldIf (bit map labelBit) (readLabel file)))
+    (fieldIf (bit map recordsBit) (readRecords c file))

@@ -15,4 +15,4 @@ pub use order::read_order;
 pub use records::read_records;
 pub use step::Cursor;
 pub use step::Step;
-pub use step::nothing;
+pub use step::refused;

@@ -4,7 +4,7 @@ ghost use mathlib.Core.Bool.{_&&_};
 ghost use Prim.Native.Nat.{_<_};
 ghost use lib.Dec.{eqb};
 ghost use Rattle.rule.specs.Bits.{bit};
-ghost use Rattle.fields.specs.Step.{nothing};
+ghost use Rattle.fields.specs.Step.{nothing, refused, start};
 
 // A file read up to a place: what it says so far. The label and the records stay in the file: here is where they start, and how many bytes or records they are.
 pub struct Cursor {
@@ -23,21 +23,38 @@ pub struct Step {
     pub cursor: Cursor,
 }
 
-// Nothing read but so many bytes: what absent fields mean.
-pub fn nothing(number: u8, at: usize) -> Step
-    ensures { λ r. ⌜ r ≡ nothing number at ⌝ }
+// No field read, up to a place: what absent fields mean.
+fn nothing(at: usize) -> Cursor
+    ensures { λ r. ⌜ r ≡ nothing at ⌝ }
+{
+    Cursor {
+        n: 0,
+        order: Order::rising(0),
+        label: 0,
+        size: 0,
+        records: 0,
+        count: 0,
+        at,
+    }
+}
+
+// Refused under a number.
+pub fn refused(number: u8) -> Step
+    ensures { λ r. ⌜ r ≡ refused number ⌝ }
 {
     Step {
         refused: number,
-        cursor: Cursor {
-            n: 0,
-            order: Order { places: [0u8; 10] },
-            label: 0,
-            size: 0,
-            records: 0,
-            count: 0,
-            at,
-        },
+        cursor: nothing(0),
+    }
+}
+
+// The bit map is read, and no field yet.
+pub fn start() -> Step
+    ensures { λ r. ⌜ r ≡ start ⌝ }
+{
+    Step {
+        refused: 0,
+        cursor: nothing(1),
     }
 }
 

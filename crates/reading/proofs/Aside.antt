@@ -12,7 +12,7 @@ use lib.Seq.{take-at}
 use Rattle.rule.specs.Bits.{bit}
 use Rattle.rule.specs.Cells.{mostCells, fitCells, room}
 use Rattle.rule.specs.Diagram.{diagram}
-use Rattle.rule.specs.Files.{FileRecord, Reading, count, recordAt, Outcome, stop, go, andThen, unless, fieldIf, readMap, readFlags, readOrder, readLabel, readRecords, rootRead, recordCells, laidIn, readEnd, reading, Reads, labelOf, noPart}
+use Rattle.rule.specs.Files.{flagsBit, orderBit, labelBit, recordsBit, yesBit, FileRecord, Reading, count, recordAt, Outcome, stop, go, andThen, unless, fieldIf, readMap, readFlags, readOrder, readLabel, readRecords, rootRead, recordCells, laidIn, readEnd, reading, Reads, labelOf, noPart}
 use Rattle.rule.specs.Reply.{accepted, refused}
 use Rattle.rule.proofs.Zeros.{take-zeros}
 use Rattle.theory.proofs.Refused.{refused-reply}
@@ -30,10 +30,10 @@ use Rattle.reading.proofs.Laid.{laid-length}
 pub fields-are : (c file : List ℕ) {m : ℕ} {o₁ o₂ o₃ o₄ o₅ : Outcome}
     → m ≡ getD file 0 0
     → o₁ ≡ mapRead file
-    → o₂ ≡ andThen o₁ (fieldIf (bit m 0) (readFlags file))
-    → o₃ ≡ andThen o₂ (fieldIf (bit m 1) (readOrder file))
-    → o₄ ≡ andThen o₃ (fieldIf (bit m 2) (readLabel file))
-    → o₅ ≡ andThen o₄ (fieldIf (bit m 3) (readRecords c file))
+    → o₂ ≡ andThen o₁ (fieldIf (bit m flagsBit) (readFlags file))
+    → o₃ ≡ andThen o₂ (fieldIf (bit m orderBit) (readOrder file))
+    → o₄ ≡ andThen o₃ (fieldIf (bit m labelBit) (readLabel file))
+    → o₅ ≡ andThen o₄ (fieldIf (bit m recordsBit) (readRecords c file))
     → o₅ ≡ fieldsRead c file
 unfolding fieldsRead
 fields-are c file e p q r s t = t ∙ rw (s, r, q, p, e)
@@ -66,12 +66,18 @@ unfolding readEnd unless
 left-over c file x h = rw (lt-ltb (x .at) (length file) h)
 
 pub root-le : (m k : ℕ) → rootRead m k ≤ k + 1
-root-le m zero = omega (arith, bit-lt m 4)
+root-le m zero = omega (arith, bit-lt m yesBit)
 root-le m (suc k) = omega arith
 
 pub root-some : (m k : ℕ) → (k ≡ 0 → ⊥) → k + 1 ≡ rootRead m k
 root-some m zero d = absurd (d refl)
 root-some m (suc k) d = refl
+
+pub root-yes : (m k : ℕ) {b : ℕ} → k ≡ 0 → b ≡ bit m yesBit → b ≡ 1 → 1 ≡ rootRead m k
+root-yes m k z e f = rw (z, ← e, f)
+
+pub root-no : (m k : ℕ) {b : ℕ} → k ≡ 0 → b ≡ bit m yesBit → (b ≡ 1 → ⊥) → 0 ≡ rootRead m k
+root-no m k z e d = rw (z, ← e) (let few : bit m yesBit < 2 = bit-lt m yesBit in omega (arith, d))
 
 -- records laid in other cells of the same length
 laid-as : (c d : List ℕ) (rs : List FileRecord) → length d ≡ length c → laidIn d rs ≡ laidIn c rs

@@ -3,13 +3,12 @@
 use mathlib.Core.Path.{_≡_, refl, sym, ap, _∙_}
 use mathlib.Core.List.{List, [], _∷_, _++_, map}
 use Prim.Native.Nat.{ℕ, zero, suc, _+_, _-_, _*_, _≤_, _<_}
-use native.Mathlib.Numerals.{add-one}
 use native.Mathlib.Omega.{arith}
-use lib.ListN.{length, getD, take, drop, replicate, length-append, length-replicate, length-map}
+use lib.ListN.{length, getD, take, drop, length-append, length-replicate}
 use lib.Seq.{take-at, take-append-add, drop-append-add}
-use Rattle.rule.specs.Bits.{from, below}
+use Rattle.rule.specs.Bits.{below}
 use Rattle.rule.specs.Cells.{width, room, inCells}
-use Rattle.rule.specs.Files.{FileRecord, recordAt, twoAt, recordCells, laidIn}
+use Rattle.rule.specs.Files.{recordSize, FileRecord, recordAt, twoAt, recordCells, laidIn}
 use Rattle.rule.proofs.Zeros.{zeros, take-zeros}
 use Rattle.theory.proofs.Bits.{below-more, length-below}
 use Rattle.cells.specs.Record.{putRecord}
@@ -67,10 +66,10 @@ laid-more c rs r k e h =
 
 -- one record more of a file
 pub laid-next : (c file : List ℕ) (start k : ℕ) {e d : List ℕ} {low high : ℕ}
-    → d ≡ putRecord e k (getD file (start + k * 5) 0) low high
+    → d ≡ putRecord e k (getD file (start + k * recordSize) 0) low high
     → e ≡ laidIn c (map (recordAt file start) (below k))
-    → low ≡ twoAt file (start + k * 5 + 1)
-    → high ≡ twoAt file (start + k * 5 + 3)
+    → low ≡ twoAt file (start + k * recordSize + 1)
+    → high ≡ twoAt file (start + k * recordSize + 3)
     → k < room c
     → d ≡ laidIn c (map (recordAt file start) (below (k + 1)))
 laid-next c file start k p q f g h =

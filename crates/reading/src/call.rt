@@ -2,16 +2,17 @@ use crate::laying::lay;
 use fields::Cursor;
 use fields::Step;
 use fields::bit_map;
-use fields::nothing;
 use fields::read_flags;
 use fields::read_label;
 use fields::read_map;
 use fields::read_order;
 use fields::read_records;
+use fields::refused;
 use rule::Loaded;
 use rule::Node;
 use rule::Order;
 use rule::Read;
+use rule::YES_BIT;
 ghost use mathlib.Core.Path.{_≡_};
 ghost use Prim.Native.Nat.{_+_, _≤_, _<_};
 ghost use lib.ListN.{length, replicate};
@@ -34,14 +35,17 @@ fn fields(file: &[u8], cells: &[u16]) -> Step
 }
 
 // The root: the last record, or the end node of bit 4.
-fn root_of(map: u16, count: u16) -> u16
+fn root_of(map: u16, count: u16) -> Node
     requires { ⌜ count < 65535 ⌝ }
-    ensures { λ r. ⌜ r ≡ rootRead map count ⌝ }
+    ensures { λ r. ⌜ r .number ≡ rootRead map count ⌝ }
 {
-    if count == 0 {
-        return bits::bit(map, 4);
+    if count != 0 {
+        return Node { number: count + 1 };
     }
-    count + 1
+    if bits::bit(map, YES_BIT) == 1 {
+        return Node::YES;
+    }
+    Node::NO
 }
 
 // Lays a file's records in cells that are 0, and tells whether they are a diagram there.
@@ -63,7 +67,7 @@ fn read_aside(file: &[u8], cells: &[u16], held: &mut [u16]) -> Step
     ensures { λ r. ⌜ ReadAside (now (cells .entry)) (now (file .entry)) (now (held .exit)) r ⌝ }
 {
     if !cells::fit_cells(cells) {
-        return nothing(5, 0);
+        return refused(5);
     }
     let step = fields(file, cells);
     if step.refused != 0 {
@@ -72,12 +76,12 @@ fn read_aside(file: &[u8], cells: &[u16], held: &mut [u16]) -> Step
     let cursor = step.cursor;
     let at = cursor.at;
     if at < file.len() {
-        return nothing(11, 0);
+        return refused(11);
     }
     let root = root_of(bit_map(file), cursor.count);
     let len = cells.len();
-    if !lay_diagram(file, cursor, root, &mut held[0..len]) {
-        return nothing(6, 0);
+    if !lay_diagram(file, cursor, root.number, &mut held[0..len]) {
+        return refused(6);
     }
     step
 }
@@ -91,7 +95,7 @@ pub fn read(file: &[u8], cells: &mut [u16]) -> Read
     let refused = step.refused;
     if refused != 0 {
         return Read {
-            order: Order { places: [0u8; 10] },
+            order: Order::ZEROS,
             answer: Loaded::Refused(refused),
         };
     }
@@ -106,7 +110,7 @@ pub fn read(file: &[u8], cells: &mut [u16]) -> Read
         answer: Loaded::Rule {
             n: cursor.n,
             records: count,
-            root: Node { number: root },
+            root,
         },
     }
 }

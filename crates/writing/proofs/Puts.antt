@@ -5,13 +5,13 @@ use mathlib.Core.List.{List, [], _∷_, _++_}
 use Prim.Native.Nat.{ℕ, _+_, _*_, _≤_}
 use native.Mathlib.Omega.{arith}
 use lib.ListN.{length}
-use Rattle.rule.specs.Files.{FileRecord, inBytes, recordBytes, recordsIn}
+use Rattle.rule.specs.Files.{recordSize, FileRecord, inBytes, recordBytes, recordsIn}
 use Rattle.theory.proofs.Bits.{below-more, length-below}
 use Rattle.runs.specs.Run.{Puts}
 use Rattle.runs.proofs.Puts.{puts-more}
 use Rattle.writing.specs.Run.{recordIn}
 
-pub length-bytes : (rs : List FileRecord) → length (recordBytes rs) ≡ length rs * 5
+pub length-bytes : (rs : List FileRecord) → length (recordBytes rs) ≡ length rs * recordSize
 unfolding recordBytes
 length-bytes [] = refl
 length-bytes (r ∷ rs) = omega (arith, length-bytes rs)
@@ -21,10 +21,10 @@ unfolding recordBytes
 bytes-more [] r = refl
 bytes-more (s ∷ rs) r = ap (λ (l : List ℕ). inBytes s ++ l) (bytes-more rs r)
 
-pub length-records : (c : List ℕ) (k : ℕ) → length (recordBytes (recordsIn c k)) ≡ k * 5
-length-records c k = length-bytes (recordsIn c k) ∙ ap (λ (j : ℕ). j * 5) (length-below (recordIn c) k)
+pub length-records : (c : List ℕ) (k : ℕ) → length (recordBytes (recordsIn c k)) ≡ k * recordSize
+length-records c k = length-bytes (recordsIn c k) ∙ ap (λ (j : ℕ). j * recordSize) (length-below (recordIn c) k)
 
-pub puts-record : (c : List ℕ) (k : ℕ) {b d e : List ℕ} {at m r : ℕ} → at + (k + 1) * 5 ≤ length b
+pub puts-record : (c : List ℕ) (k : ℕ) {b d e : List ℕ} {at m r : ℕ} → at + (k + 1) * recordSize ≤ length b
     → Puts b at (recordBytes (recordsIn c k)) m d → Puts d m (inBytes (recordIn c k)) r e → Puts b at (recordBytes (recordsIn c (k + 1))) r e
 puts-record c k h p q =
     let e : recordBytes (recordsIn c (k + 1)) ≡ recordBytes (recordsIn c k) ++ inBytes (recordIn c k) =

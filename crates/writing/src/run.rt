@@ -4,7 +4,7 @@ use runs::put_run;
 ghost use Prim.Native.Nat.{ℕ, _+_, _*_, _≤_, _<_};
 ghost use lib.ListN.{length, take};
 ghost use Rattle.rule.specs.Cells.{room, flagAt};
-ghost use Rattle.rule.specs.Files.{two, inBytes, recordBytes, recordsIn};
+ghost use Rattle.rule.specs.Files.{recordSize, two, inBytes, recordBytes, recordsIn};
 ghost use Rattle.runs.specs.Run.{Puts};
 ghost use Rattle.writing.specs.Run.{recordIn};
 
@@ -31,7 +31,7 @@ pub fn put_flags(bytes: &mut [u8], at: usize, n: u8, order: Order) -> usize
 
 // Writes record k.
 fn put_record(bytes: &mut [u8], at: usize, cells: &[u16], k: u16) -> usize
-    requires { ⌜ (k < room (now cells)) × (flagAt (now cells) k < 256) × (at + 5 ≤ length (now bytes)) ⌝ }
+    requires { ⌜ (k < room (now cells)) × (flagAt (now cells) k < 256) × (at + recordSize ≤ length (now bytes)) ⌝ }
     ensures { λ r. ⌜ Puts (now (bytes .entry)) at (inBytes (recordIn (now (cells .entry)) k)) r (now (bytes .exit)) ⌝ }
 {
     let flag = cells::flag_at(cells, k) as u8;
@@ -42,7 +42,7 @@ fn put_record(bytes: &mut [u8], at: usize, cells: &[u16], k: u16) -> usize
 
 // Writes the used records.
 pub fn put_records(bytes: &mut [u8], at: usize, cells: &[u16], used: u16) -> usize
-    requires { ⌜ (used ≤ room (now cells)) × ((k : ℕ) → k < used → flagAt (now cells) k < 256) × (at + used * 5 ≤ length (now bytes)) ⌝ }
+    requires { ⌜ (used ≤ room (now cells)) × ((k : ℕ) → k < used → flagAt (now cells) k < 256) × (at + used * recordSize ≤ length (now bytes)) ⌝ }
     ensures { λ r. ⌜ Puts (now (bytes .entry)) at (recordBytes (recordsIn (now (cells .entry)) used)) r (now (bytes .exit)) ⌝ }
 {
     let mut next = at;

@@ -4,7 +4,7 @@ use native.Mathlib.Omega.{arith}
 use borrow.Author.Needs.{needs}
 use denote.Ref.{now}
 use Rattle.rule.specs.Files.{readFlags}
-use Rattle.fields.proofs.Stepped.{skipped, refuses, reads-on, nothing-before}
+use Rattle.fields.proofs.Stepped.{skipped, refuses, reads-on, refused-before}
 use Rattle.fields.proofs.Fields.{flags-end, flags-many, flags-read}
 use Rattle.fields.proofs.field.read_flags.Statement.{statement}
 use Rattle.fields.proofs.field.read_flags.Tie as tie
@@ -24,9 +24,9 @@ returns-2 c =
     let a = test .before .before .before .args in
     let file = now (a .file) in
     record {
-      is = refuses file (a .map) 0 (readFlags file) (a .step) (test .before .stands .ensures) (test .if1 .left) 11 (c .nothing .ensures) (omega arith)
+      is = refuses file (a .map) 0 (readFlags file) (a .step) (test .before .stands .ensures) (test .if1 .left) 11 (c .refused .ensures) (omega arith)
           (flags-end file _ (c .before .if2 .taken));
-      before = nothing-before file 11 (c .nothing .ensures);
+      before = refused-before file 11 (c .refused .ensures);
     }
 
 returns-3 : tie.Need-returns-3
@@ -36,9 +36,9 @@ returns-3 c =
     let a = test .before .before .before .args in
     let file = now (a .file) in
     record {
-      is = refuses file (a .map) 0 (readFlags file) (a .step) (test .before .stands .ensures) (test .if1 .left) 1 (c .nothing2 .ensures) (omega arith)
+      is = refuses file (a .map) 0 (readFlags file) (a .step) (test .before .stands .ensures) (test .if1 .left) 1 (c .refused2 .ensures) (omega arith)
           (flags-many file _ (past .if2 .left) (c .before .if3 .taken));
-      before = nothing-before file 1 (c .nothing2 .ensures);
+      before = refused-before file 1 (c .refused2 .ensures);
     }
 
 returns-4 : tie.Need-returns-4

@@ -8,7 +8,7 @@ use denote.Ref.{now}
 use lib.ListN.{getD}
 use Rattle.rule.specs.Bits.{bit, from}
 use Rattle.fields.specs.Step.{outcomeOf}
-use Rattle.fields.proofs.Stepped.{nothing-before}
+use Rattle.fields.proofs.Stepped.{refused-before}
 use Rattle.fields.proofs.Fields.{map-end, map-high, map-both, map-without}
 use Rattle.fields.proofs.field.read_map.Statement.{statement}
 use Rattle.fields.proofs.field.read_map.Tie as tie
@@ -16,15 +16,15 @@ use Rattle.fields.proofs.field.read_map.Tie as tie
 returns : tie.Need-returns
 returns c =
     let file = now (c .before .before .before .args .file) in
-    record { is = ap (outcomeOf file) (c .nothing .ensures) ∙ sym (map-end file (c .before .if1 .taken)); before = nothing-before file 11 (c .nothing .ensures) }
+    record { is = ap (outcomeOf file) (c .refused .ensures) ∙ sym (map-end file (c .before .if1 .taken)); before = refused-before file 11 (c .refused .ensures) }
 
 returns-2 : tie.Need-returns-2
 returns-2 c =
     let past = c .before .before .before in
     let file = now (past .before .before .args .file) in
     record {
-      is = ap (outcomeOf file) (c .nothing2 .ensures) ∙ sym (map-high file (past .if1 .left) (c .before .if2 .taken));
-      before = nothing-before file 12 (c .nothing2 .ensures);
+      is = ap (outcomeOf file) (c .refused2 .ensures) ∙ sym (map-high file (past .if1 .left) (c .before .if2 .taken));
+      before = refused-before file 12 (c .refused2 .ensures);
     }
 
 returns-3 : tie.Need-returns-3
@@ -34,9 +34,9 @@ returns-3 c =
     let past = low .before .before in
     let file = now (past .before .before .args .file) in
     record {
-      is = ap (outcomeOf file) (c .nothing3 .ensures)
+      is = ap (outcomeOf file) (c .refused3 .ensures)
           ∙ sym (map-both file (past .if1 .left) (low .if2 .left) (sym (third .before .bit .ensures) ∙ third .if3 .taken) (sym (c .before .before .bit2 .ensures) ∙ c .before .if4 .taken));
-      before = nothing-before file 12 (c .nothing3 .ensures);
+      before = refused-before file 12 (c .refused3 .ensures);
     }
 
 returns-4 : tie.Need-returns-4
@@ -49,8 +49,8 @@ returns-4 c =
     let one : (bit (getD file 0 0) 3 ≡ 1 → bit (getD file 0 0) 4 ≡ 1 → ⊥) =
     ⊎-elim (λ w p q. w .2 .left (w .1 .ensures ∙ q)) (λ w p q. w .left (third .bit .ensures ∙ p)) (c .before .if3 .came) in
     record {
-      is = ap (outcomeOf file) (c .nothing4 .ensures) ∙ sym (map-without file (past .if1 .left) (low .if2 .left) one);
-      before = rw (c .nothing4 .ensures) (record { few = omega arith; reached = past .if1 .left; label = omega arith; start = refl; none = refl });
+      is = ap (outcomeOf file) (c .start .ensures) ∙ sym (map-without file (past .if1 .left) (low .if2 .left) one);
+      before = rw (c .start .ensures) (record { few = omega arith; reached = past .if1 .left; label = omega arith; start = refl; none = refl });
     }
 
 pub read-map-spec : {M : Type 1} → statement M

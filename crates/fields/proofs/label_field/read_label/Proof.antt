@@ -4,7 +4,7 @@ use native.Mathlib.Omega.{arith}
 use borrow.Author.Needs.{needs}
 use denote.Ref.{now}
 use Rattle.rule.specs.Files.{readLabel}
-use Rattle.fields.proofs.Stepped.{skipped, refuses, reads-on, nothing-before}
+use Rattle.fields.proofs.Stepped.{skipped, refuses, reads-on, refused-before}
 use Rattle.fields.proofs.Fields.{label-end, label-none, label-past, label-unprintable, label-read}
 use Rattle.fields.proofs.label_field.read_label.Statement.{statement}
 use Rattle.fields.proofs.label_field.read_label.Tie as tie
@@ -24,9 +24,9 @@ returns-2 c =
     let a = test .before .before .before .args in
     let file = now (a .file) in
     record {
-      is = refuses file (a .map) 2 (readLabel file) (a .step) (test .before .stands .ensures) (test .if1 .left) 11 (c .nothing .ensures) (omega arith)
+      is = refuses file (a .map) 2 (readLabel file) (a .step) (test .before .stands .ensures) (test .if1 .left) 11 (c .refused .ensures) (omega arith)
           (label-end file _ (c .before .if2 .taken));
-      before = nothing-before file 11 (c .nothing .ensures);
+      before = refused-before file 11 (c .refused .ensures);
     }
 
 returns-3 : tie.Need-returns-3
@@ -36,9 +36,9 @@ returns-3 c =
     let a = test .before .before .before .args in
     let file = now (a .file) in
     record {
-      is = refuses file (a .map) 2 (readLabel file) (a .step) (test .before .stands .ensures) (test .if1 .left) 13 (c .nothing2 .ensures) (omega arith)
+      is = refuses file (a .map) 2 (readLabel file) (a .step) (test .before .stands .ensures) (test .if1 .left) 13 (c .refused2 .ensures) (omega arith)
           (label-none file _ (past .if2 .left) (c .before .if3 .taken));
-      before = nothing-before file 13 (c .nothing2 .ensures);
+      before = refused-before file 13 (c .refused2 .ensures);
     }
 
 returns-4 : tie.Need-returns-4
@@ -50,9 +50,9 @@ returns-4 c =
     let file = now (a .file) in
     let byte = some .before .shared-slice-known2 .given (a .step .cursor .at) in
     record {
-      is = refuses file (a .map) 2 (readLabel file) (a .step) (test .before .stands .ensures) (test .if1 .left) 11 (c .nothing3 .ensures) (omega arith)
+      is = refuses file (a .map) 2 (readLabel file) (a .step) (test .before .stands .ensures) (test .if1 .left) 11 (c .refused3 .ensures) (omega arith)
           (label-past file _ (past .if2 .left) (some .if3 .left) (omega arith) (omega (arith, c .before .if4 .taken)));
-      before = nothing-before file 11 (c .nothing3 .ensures);
+      before = refused-before file 11 (c .refused3 .ensures);
     }
 
 returns-5 : tie.Need-returns-5
@@ -66,9 +66,9 @@ returns-5 c =
     let file = now (a .file) in
     let byte = some .before .shared-slice-known2 .given (a .step .cursor .at) in
     record {
-      is = refuses file (a .map) 2 (readLabel file) (a .step) (test .before .stands .ensures) (test .if1 .left) 13 (c .nothing4 .ensures) (omega arith)
+      is = refuses file (a .map) 2 (readLabel file) (a .step) (test .before .stands .ensures) (test .if1 .left) 13 (c .refused4 .ensures) (omega arith)
           (label-unprintable file _ (past .if2 .left) (some .if3 .left) (omega arith) (omega (arith, fits .if4 .left)) (read .all-printable .ensures) (c .before .if5 .taken));
-      before = nothing-before file 13 (c .nothing4 .ensures);
+      before = refused-before file 13 (c .refused4 .ensures);
     }
 
 returns-6 : tie.Need-returns-6

@@ -11,7 +11,7 @@ use Rattle.cells.proofs.Fit.{fit-length}
 use Rattle.rule.specs.Cells.{fitCells}
 use Rattle.rule.specs.Files.{readOr}
 use Rattle.fields.specs.Step.{readingOf, outcomeOf}
-use Rattle.fields.proofs.Stepped.{nothing-whole, never}
+use Rattle.fields.proofs.Stepped.{refused-whole, never}
 use Rattle.reading.proofs.Aside.{reading-unfit, fields-refused, fields-end, left-over, root-le, end-unfit, end-fit, first-lent, held-whole, held-room, held-zeros, whole-many, most-held, most-laid, take-laid}
 use Rattle.reading.proofs.call.read_aside.Statement.{statement}
 use Rattle.reading.proofs.call.read_aside.Tie as tie
@@ -22,10 +22,10 @@ returns c =
     let start = fit .before .before .before .before in
     let cells = now (start .args .cells) in
     let file = now (start .args .file) in
-    let own = c .nothing .ensures in
+    let own = c .refused .ensures in
     record {
       is = ap (outcomeOf file) own ∙ sym (reading-unfit cells file (fit .fit-cells .ensures) (c .before .if1 .taken));
-      whole = nothing-whole cells file 5 own;
+      whole = refused-whole cells file 5 own;
       most = most-held (start .pre);
       lent = λ z. absurd (never 5 own (omega arith) z);
       laid = λ z. absurd (never 5 own (omega arith) z);
@@ -56,11 +56,11 @@ returns-3 c =
     let start = step .before .before .before .before .before .before in
     let cells = now (start .args .cells) in
     let file = now (start .args .file) in
-    let own = c .nothing2 .ensures in
+    let own = c .refused2 .ensures in
     record {
       is = ap (outcomeOf file) own
           ∙ sym (fields-end cells file (fits (step .before)) _ (step .fields .ensures .is) (on .if2 .left) ∙ left-over cells file _ (c .before .if3 .taken));
-      whole = nothing-whole cells file 11 own;
+      whole = refused-whole cells file 11 own;
       most = most-held (start .pre);
       lent = λ z. absurd (never 11 own (omega arith) z);
       laid = λ z. absurd (never 11 own (omega arith) z);
@@ -103,12 +103,12 @@ returns-4 c =
     let start = step .before .before .before .before .before .before in
     let cells = now (start .args .cells) in
     let file = now (start .args .file) in
-    let own = c .nothing3 .ensures in
+    let own = c .refused3 .ensures in
     record {
       is = ap (outcomeOf file) own
           ∙ sym (fields-end cells file (fits (step .before)) _ (step .fields .ensures .is) (on .if2 .left)
           ∙ end-unfit cells file _ (all .if3 .left) (root .before .bit-map .ensures) (root .root-of .ensures) (first-lent cells (fits (step .before)) (start .pre)) (lay .lay-diagram .ensures) (c .before .if4 .taken));
-      whole = nothing-whole cells file 6 own;
+      whole = refused-whole cells file 6 own;
       most = most-laid cells (fits (step .before)) (start .pre) _ (lay .lay-diagram .ensures .laid) (whole-many cells file _ (step .fields .ensures .whole));
       lent = λ z. absurd (never 6 own (omega arith) z);
       laid = λ z. absurd (never 6 own (omega arith) z);

@@ -1,16 +1,19 @@
--- `reading::call::root_of` meets its contract.
+-- `reading::call::root_of` meets its contract: the last record, or by bit 4 an end node.
 -- Assumes nothing.
 use mathlib.Core.Path.{_∙_}
 use borrow.Author.Needs.{needs}
-use Rattle.reading.proofs.Aside.{root-some}
+use Rattle.reading.proofs.Aside.{root-some, root-yes, root-no}
 use Rattle.reading.proofs.call.root_of.Statement.{statement}
 use Rattle.reading.proofs.call.root_of.Tie as tie
 
 returns : tie.Need-returns
-returns c = c .bit .ensures ∙ rw (c .before .if1 .taken)
+returns c = root-some _ _ (c .if1 .taken)
 
 returns-2 : tie.Need-returns-2
-returns-2 c = root-some _ _ (c .if1 .left)
+returns-2 c = root-yes _ _ (c .before .before .if1 .left) (c .before .bit .ensures) (c .if2 .taken)
+
+returns-3 : tie.Need-returns-3
+returns-3 c = root-no _ _ (c .before .before .if1 .left) (c .before .bit .ensures) (c .if2 .left)
 
 pub root-of-spec : {M : Type 1} → statement M
-root-of-spec = tie.close (tie.spec (λ c κs. search needs) returns (λ c. search needs) returns-2)
+root-of-spec = tie.close (tie.spec (λ c. search needs) returns (λ c κs. search needs) returns-2 returns-3)

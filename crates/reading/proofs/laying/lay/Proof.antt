@@ -8,7 +8,7 @@ use borrow.Author.Needs.{needs}
 use denote.Ref.{now}
 use Rattle.rule.specs.Bits.{below, from}
 use Rattle.rule.specs.Cells.{room}
-use Rattle.rule.specs.Files.{recordAt, laidIn}
+use Rattle.rule.specs.Files.{recordSize, recordAt, laidIn}
 use Rattle.reading.proofs.Laid.{laid-none, laid-next, laid-lent}
 use Rattle.reading.proofs.laying.lay.Statement.{statement}
 use Rattle.reading.proofs.laying.lay.Tie as tie
@@ -54,7 +54,7 @@ lay-spec =
     (λ c. search needs)
     (λ c. search needs)
     (λ c. search needs)
-    (λ c. omega (arith, c .shared-slice-known2 .given (c .before .before .before .before .before .args .start + c .before .before .loop .k * 5)))
+    (λ c. omega (arith, c .shared-slice-known2 .given (c .before .before .before .before .before .args .start + c .before .before .loop .k * recordSize)))
     (λ c. search needs)
     (λ c κs. search needs)
     (λ c. search needs)
