@@ -15,8 +15,8 @@ use Rattle.rule.specs.Files.{FileRecord, two, twoAt, inBytes, recordAt, recordC
 use Rattle.rule.proofs.Zeros.{zeros, zero-at}
 use Rattle.theory.proofs.Bits.{length-below}
 use Rattle.theory.proofs.Orders.{fit-order-rest, in-places-is}
-use Rattle.writing.specs.Run.{recordIn}
-use Rattle.reading.proofs.Laid.{laid-is, laid-length}
+use Rattle.encoding.specs.Record.{recordIn}
+use Rattle.laying.proofs.Laid.{laid-is, laid-length}
 
 -- ---- lists that are 0 from a place on
 

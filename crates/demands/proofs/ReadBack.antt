@@ -17,8 +17,9 @@ use Rattle.rule.specs.Cells.{fitCells, room}
 use Rattle.rule.specs.Diagram.{diagram}
 use Rattle.rule.specs.Refusals.{Row}
 use Rattle.rule.specs.Files.{FileRecord, two, twoAt, recordAt, recordBytes, Part, bytesOf, noPart, fileMap, longestLabel, printable, bitIf, ifSome, mapByte, Reading, stop, go, andThen, unless, fieldIf, nothingRead, readMap, readFlags, readOrder, readLabel, readRecords, rootRead, laidIn, readEnd, reading}
-use Rattle.fields.proofs.Fields.{flags-read, order-read, label-read, records-many, records-read}
-use Rattle.writing.proofs.Puts.{length-bytes}
+use Rattle.cursor.proofs.Head.{flags-read}
+use Rattle.fields.proofs.Fields.{order-read, label-read, records-many, records-read}
+use Rattle.encoding.proofs.Puts.{length-bytes}
 use Rattle.demands.proofs.Stands.{Passed, none-applies}
 use Rattle.demands.proofs.FileBytes.{places-back, behind, two-at, records-at}
 

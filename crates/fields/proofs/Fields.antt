@@ -1,65 +1,19 @@
--- What each field comes to, test by test.
+-- What the order, the label and the records come to, test by test, and all fields together.
 -- Assumes nothing.
-use mathlib.Core.Path.{_≡_, refl, sym, ap, _∙_}
-use mathlib.Core.Bool.{Bool, true, false, not, _&&_}
+use mathlib.Core.Path.{_≡_, sym, ap, _∙_}
+use mathlib.Core.Bool.{Bool, true, false, not}
 use mathlib.Core.List.{List, map}
 use Prim.Native.Nat.{ℕ, _+_, _-_, _*_, _≤_, _<_}
 use native.Mathlib.Omega.{arith}
-use borrow.Author.Tests.{eqb-true, not-true, not-false, ne-eqb, lt-ltb, le-ltb, le-leb, lt-leb}
-use lib.Dec.{eqb}
+use borrow.Author.Tests.{not-true, not-false, ne-eqb, lt-ltb, le-ltb}
 use lib.ListN.{length, getD, take, drop}
 use Rattle.rule.specs.Bits.{bit, below}
 use Rattle.rule.specs.Tests.{each}
-use Rattle.rule.specs.Order.{places, inPlaces, rising, fitOrder}
+use Rattle.rule.specs.Order.{inPlaces, fitOrder}
 use Rattle.rule.specs.Cells.{room}
-use Rattle.rule.specs.Files.{recordsBit, yesBit, mapEnd, longestLabel, countSize, recordSize, Reading, stop, go, unless, nothingRead, recordAt, twoAt, printable, readFlags, readOrder, readLabel, readRecords}
-use Rattle.fields.specs.Step.{mapRead}
-
--- ---- the bit map
-
-not-both : (a b : ℕ) → (a ≡ 1 → b ≡ 1 → ⊥) → (eqb a 1 && eqb b 1) ≡ false
-not-both a b d = by (eqb a 1) (eqb b 1) (eqb-true a 1) (eqb-true b 1)
-  where
-    by : (x y : Bool) → (x ≡ true → a ≡ 1) → (y ≡ true → b ≡ 1) → (x && y) ≡ false
-    by true true f g = absurd (d (f refl) (g refl))
-    by true false f g = refl
-    by false y f g = refl
-
-module _ (file : List ℕ) where
-  pub map-end : length file < 1 → mapRead file ≡ stop 11
-  unfolding mapRead unless
-  map-end h = rw (lt-ltb (length file) 1 h)
-
-  module _ (h : 1 ≤ length file) where
-    pub map-high : mapEnd ≤ getD file 0 0 → mapRead file ≡ stop 12
-    unfolding mapRead unless
-    map-high g = rw (le-ltb (length file) 1 h, le-leb mapEnd (getD file 0 0) g)
-
-    module _ (g : getD file 0 0 < mapEnd) where
-      pub map-both : bit (getD file 0 0) recordsBit ≡ 1 → bit (getD file 0 0) yesBit ≡ 1 → mapRead file ≡ stop 12
-      unfolding mapRead unless
-      map-both p q = rw (le-ltb (length file) 1 h, lt-leb mapEnd (getD file 0 0) g, p, q)
-
-      pub map-without : (bit (getD file 0 0) recordsBit ≡ 1 → bit (getD file 0 0) yesBit ≡ 1 → ⊥) → mapRead file ≡ go nothingRead
-      unfolding mapRead unless
-      map-without d = rw (le-ltb (length file) 1 h, lt-leb mapEnd (getD file 0 0) g, not-both (bit (getD file 0 0) recordsBit) (bit (getD file 0 0) yesBit) d)
-
--- ---- n
-
-module _ (file : List ℕ) (x : Reading) where
-  pub flags-end : length file ≤ x .at → readFlags file x ≡ stop 11
-  unfolding readFlags unless
-  flags-end h = rw (lt-ltb (length file) (x .at + 1) (omega arith))
-
-  module _ (h : x .at < length file) where
-    pub flags-many : 10 < getD file (x .at) 0 → readFlags file x ≡ stop 1
-    unfolding readFlags unless
-    flags-many g = rw (le-ltb (length file) (x .at + 1) (omega arith), lt-ltb 10 (getD file (x .at) 0) g)
-
-    pub flags-read : getD file (x .at) 0 ≤ 10 → {o : List ℕ} → o ≡ rising (getD file (x .at) 0)
-        → readFlags file x ≡ go (record { n = getD file (x .at) 0; places = o; label = x .label; records = x .records; at = x .at + 1 })
-    unfolding readFlags unless
-    flags-read g e = rw (e, le-ltb (length file) (x .at + 1) (omega arith), le-ltb 10 (getD file (x .at) 0) g)
+use Rattle.rule.specs.Files.{flagsBit, orderBit, labelBit, recordsBit, longestLabel, countSize, recordSize, Reading, Outcome, stop, go, andThen, unless, fieldIf, recordAt, twoAt, printable, readFlags, readOrder, readLabel, readRecords}
+use Rattle.cursor.specs.Step.{mapRead}
+use Rattle.fields.specs.Fields.{fieldsRead}
 
 -- ---- the order
 
@@ -172,3 +126,16 @@ module _ (c file : List ℕ) (x : Reading) where
               le-ltb (room c) count p,
               le-ltb (length file) (x .at + countSize + count * recordSize) q,
             )
+
+-- ---- the fields together
+
+pub fields-are : (c file : List ℕ) {m : ℕ} {o₁ o₂ o₃ o₄ o₅ : Outcome}
+    → m ≡ getD file 0 0
+    → o₁ ≡ mapRead file
+    → o₂ ≡ andThen o₁ (fieldIf (bit m flagsBit) (readFlags file))
+    → o₃ ≡ andThen o₂ (fieldIf (bit m orderBit) (readOrder file))
+    → o₄ ≡ andThen o₃ (fieldIf (bit m labelBit) (readLabel file))
+    → o₅ ≡ andThen o₄ (fieldIf (bit m recordsBit) (readRecords c file))
+    → o₅ ≡ fieldsRead c file
+unfolding fieldsRead
+fields-are c file e p q r s t = t ∙ rw (s, r, q, p, e)

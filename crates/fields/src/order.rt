@@ -1,6 +1,6 @@
-use crate::step::Step;
-use crate::step::refused;
-use crate::step::stands;
+use cursor::Step;
+use cursor::refused;
+use cursor::stands;
 use rule::ORDER_BIT;
 use rule::Order;
 ghost use mathlib.Core.Path.{_≡_};
@@ -9,7 +9,7 @@ ghost use lib.ListN.{length, take, drop};
 ghost use Rattle.rule.specs.Bits.{bit};
 ghost use Rattle.rule.specs.Order.{inPlaces};
 ghost use Rattle.rule.specs.Files.{orderBit, andThen, fieldIf, readOrder};
-ghost use Rattle.fields.specs.Step.{outcomeOf, Before, Leads};
+ghost use Rattle.cursor.specs.Step.{outcomeOf, Before, Leads};
 
 // An order of n flags from n bytes at a place.
 fn order_at(file: &[u8], at: usize, n: u8) -> Order

@@ -1,13 +1,14 @@
-use crate::bytes::two_at;
-use crate::step::Step;
-use crate::step::refused;
-use crate::step::stands;
+use cursor::Step;
+use cursor::refused;
+use cursor::stands;
+use cursor::two_at;
 use rule::COUNT_SIZE;
 use rule::RECORD_SIZE;
 use rule::RECORDS_BIT;
 ghost use Rattle.rule.specs.Bits.{bit};
 ghost use Rattle.rule.specs.Files.{recordsBit, andThen, fieldIf, readRecords};
-ghost use Rattle.fields.specs.Step.{outcomeOf, Before, Ends};
+ghost use Rattle.cursor.specs.Step.{outcomeOf, Before};
+ghost use Rattle.fields.specs.Fields.{Ends};
 
 // Bit 3, the records: for their count 11, then 6, then 10, then 11 for the records.
 pub fn read_records(file: &[u8], map: u16, cells: &[u16], step: Step) -> Step

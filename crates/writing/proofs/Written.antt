@@ -20,8 +20,8 @@ use Rattle.theory.proofs.Refused.{row-passed, refused-more, passed-more, refuse
 use Rattle.theory.proofs.Sound.{sound-view}
 use Rattle.runs.specs.Run.{over, Puts}
 use Rattle.runs.proofs.Puts.{puts-more}
+use Rattle.encoding.proofs.Puts.{length-records}
 use Rattle.writing.specs.Write.{sizeOf, ownRows, Writable}
-use Rattle.writing.proofs.Puts.{length-records}
 
 -- ---- what stands only where there is something
 
@@ -32,13 +32,6 @@ some-is (suc k) x d = refl
 pub some-le : (k x : ℕ) → bitIf k x ≤ x
 some-le zero x = omega arith
 some-le (suc k) x = omega arith
-
-pub some-list : (k : ℕ) (l : List ℕ) → (k ≡ 0 → ⊥) → l ≡ ifSome k l
-some-list zero l d = absurd (d refl)
-some-list (suc k) l d = refl
-
-pub some-long : (k : ℕ) (l : List ℕ) → (k ≡ 0 → ⊥) → length (ifSome k l) ≡ length l
-some-long k l d = ap length (sym (some-list k l d))
 
 some-length : (k : ℕ) (l : List ℕ) {n : ℕ} → length l ≡ n → length (ifSome k l) ≡ bitIf k n
 some-length zero l e = refl

@@ -1,7 +1,7 @@
-use crate::run::put_flags;
-use crate::run::put_records;
-use crate::run::put_two;
 use arguments::all_printable;
+use encoding::put_counted;
+use encoding::put_flags;
+use encoding::put_label;
 use rule::COUNT_SIZE;
 use rule::Counted;
 use rule::FLAGS_BIT;
@@ -15,15 +15,12 @@ use rule::RECORDS_BIT;
 use rule::Written;
 use rule::YES_BIT;
 use runs::put_byte;
-use runs::put_run;
 ghost use mathlib.Core.Path.{_≡_};
-ghost use mathlib.Core.List.{_∷_, _++_};
-ghost use Prim.Native.Nat.{ℕ, _+_, _*_, _≤_, _<_};
+ghost use Prim.Native.Nat.{_≤_};
 ghost use lib.ListN.{length};
-ghost use Rattle.rule.specs.Cells.{room, flagAt};
 ghost use Rattle.rule.specs.Refusals.{refusal};
 ghost use Rattle.rule.specs.Answers.{writtenReply};
-ghost use Rattle.rule.specs.Files.{longestLabel, two, recordBytes, recordsIn, ifSome, bitIf, mapOf, fileOf, writeRows, Writes};
+ghost use Rattle.rule.specs.Files.{longestLabel, bitIf, mapOf, fileOf, writeRows, Writes};
 ghost use Rattle.runs.specs.Run.{Puts};
 ghost use Rattle.writing.specs.Write.{sizeOf, ownRows, Writable};
 
@@ -99,31 +96,6 @@ fn write_refusal(
         Counted::Refused(k) => k,
         Counted::Nodes(_) => own_refusal(n, used, label, bytes),
     }
-}
-
-// Writes a label behind its length, or nothing for an empty one.
-fn put_label(bytes: &mut [u8], at: usize, label: &[u8]) -> usize
-    requires { ⌜ (length (now label) ≤ longestLabel) × (at + length (ifSome (length (now label)) (length (now label) ∷ now label)) ≤ length (now bytes)) ⌝ }
-    ensures { λ r. ⌜ Puts (now (bytes .entry)) at (ifSome (length (now (label .entry))) (length (now (label .entry)) ∷ now (label .entry))) r (now (bytes .exit)) ⌝ }
-{
-    if label.len() == 0 {
-        return at;
-    }
-    let next = put_byte(bytes, at, label.len() as u8);
-    put_run(bytes, next, label)
-}
-
-// Writes the used records behind their count, or nothing for none.
-fn put_counted(bytes: &mut [u8], at: usize, cells: &[u16], used: u16) -> usize
-    requires { ⌜ (used ≤ room (now cells)) × ((k : ℕ) → k < used → flagAt (now cells) k < 256)
-        × (at + length (ifSome used (two used ++ recordBytes (recordsIn (now cells) used))) ≤ length (now bytes)) ⌝ }
-    ensures { λ r. ⌜ Puts (now (bytes .entry)) at (ifSome used (two used ++ recordBytes (recordsIn (now (cells .entry)) used))) r (now (bytes .exit)) ⌝ }
-{
-    if used == 0 {
-        return at;
-    }
-    let next = put_two(bytes, at, used);
-    put_records(bytes, next, cells, used)
 }
 
 // Writes a file that the lent bytes have room for, and hands back its length.

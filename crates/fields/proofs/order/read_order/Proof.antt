@@ -4,7 +4,7 @@ use native.Mathlib.Omega.{arith}
 use borrow.Author.Needs.{needs}
 use denote.Ref.{now}
 use Rattle.rule.specs.Files.{readOrder}
-use Rattle.fields.proofs.Stepped.{skipped, refuses, reads-on, refused-before}
+use Rattle.cursor.proofs.Stepped.{skipped, refuses, reads-on, refused-before}
 use Rattle.fields.proofs.Fields.{order-end, order-unfit, order-read}
 use Rattle.fields.proofs.order.read_order.Statement.{statement}
 use Rattle.fields.proofs.order.read_order.Tie as tie

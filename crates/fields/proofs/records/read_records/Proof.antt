@@ -4,7 +4,8 @@ use native.Mathlib.Omega.{arith}
 use borrow.Author.Needs.{needs}
 use denote.Ref.{now}
 use Rattle.rule.specs.Files.{readRecords}
-use Rattle.fields.proofs.Stepped.{skipped, refuses, reads-on, refused-whole, before-whole}
+use Rattle.cursor.proofs.Stepped.{skipped, refuses, reads-on}
+use Rattle.fields.proofs.Whole.{refused-whole, before-whole}
 use Rattle.fields.proofs.Fields.{records-end, records-none, records-many, records-past, records-read}
 use Rattle.fields.proofs.records.read_records.Statement.{statement}
 use Rattle.fields.proofs.records.read_records.Tie as tie
