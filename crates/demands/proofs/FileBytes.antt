@@ -11,12 +11,12 @@ use lib.Seq.{length-take-le, drop-cons, getD-take, getD-append-add, ext-getD}
 use Rattle.rule.specs.Bits.{from}
 use Rattle.rule.specs.Order.{places, flags, inPlaces, fitOrder}
 use Rattle.rule.specs.Cells.{width, room, flagAt, lowAt, highAt}
-use Rattle.rule.specs.Files.{FileRecord, two, twoAt, inBytes, recordAt, recordCells, laidIn, recordsIn, recordBytes}
+use Rattle.rule.specs.Files.{recordSize, FileRecord, two, twoAt, inBytes, recordAt, recordCells, laidIn, recordsIn, recordBytes}
 use Rattle.rule.proofs.Zeros.{zeros, zero-at}
 use Rattle.theory.proofs.Bits.{length-below}
 use Rattle.theory.proofs.Orders.{fit-order-rest, in-places-is}
-use Rattle.writing.specs.Run.{recordIn}
-use Rattle.reading.proofs.Laid.{laid-is, laid-length}
+use Rattle.encoding.specs.Record.{recordIn}
+use Rattle.laying.proofs.Laid.{laid-is, laid-length}
 
 -- ---- lists that are 0 from a place on
 
@@ -57,15 +57,15 @@ pub two-at : (p : List ℕ) (x : ℕ) (q : List ℕ) (k : ℕ) → k ≡ length 
 two-at p x q k e = rw (behind p (two x ++ q) 0 k (omega arith), behind p (two x ++ q) 1 (k + 1) (omega arith)) (two-back x)
 
 -- records that stand behind p, from the one of index a on
-pub records-at : (rs : List FileRecord) (p : List ℕ) (start a : ℕ) → length p ≡ start + a * 5
+pub records-at : (rs : List FileRecord) (p : List ℕ) (start a : ℕ) → length p ≡ start + a * recordSize
     → map (recordAt (p ++ recordBytes rs) start) (from a (length rs)) ≡ rs
 unfolding recordBytes from
 records-at [] p start a e = refl
 records-at (r ∷ rs) p start a e =
-    let at = start + a * 5 in
+    let at = start + a * recordSize in
     let own = inBytes r ++ recordBytes rs in
     let split : p ++ own ≡ p ++ inBytes r ++ recordBytes rs = sym (append-assoc p (inBytes r) (recordBytes rs)) in
-    let next : length (p ++ inBytes r) ≡ start + suc a * 5 = omega (arith, length-append p (inBytes r)) in
+    let next : length (p ++ inBytes r) ≡ start + suc a * recordSize = omega (arith, length-append p (inBytes r)) in
     ap₂ {C = List FileRecord} _∷_
     (rw (
       behind p own 0 at (omega arith),

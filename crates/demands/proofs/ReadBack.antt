@@ -16,9 +16,10 @@ use Rattle.rule.specs.Order.{places, flags, inPlaces, rising, fitOrder}
 use Rattle.rule.specs.Cells.{fitCells, room}
 use Rattle.rule.specs.Diagram.{diagram}
 use Rattle.rule.specs.Refusals.{Row}
-use Rattle.rule.specs.Files.{FileRecord, two, twoAt, recordAt, recordBytes, Part, bytesOf, noPart, fileMap, longestLabel, printable, bitIf, ifSome, mapByte, Reading, stop, go, andThen, unless, fieldIf, nothingRead, readMap, readFlags, readOrder, readLabel, readRecords, rootRead, laidIn, readEnd, reading}
-use Rattle.fields.proofs.Fields.{flags-read, order-read, label-read, records-many, records-read}
-use Rattle.writing.proofs.Puts.{length-bytes}
+use Rattle.rule.specs.Files.{flagsBit, orderBit, labelBit, recordsBit, yesBit, longestLabel, countSize, recordSize, FileRecord, two, twoAt, recordAt, recordBytes, Part, bytesOf, noPart, fileMap, printable, bitIf, ifSome, mapByte, Reading, stop, go, andThen, unless, fieldIf, nothingRead, readMap, readFlags, readOrder, readLabel, readRecords, rootRead, laidIn, readEnd, reading}
+use Rattle.cursor.proofs.Head.{flags-read}
+use Rattle.fields.proofs.Fields.{order-read, label-read, records-many, records-read}
+use Rattle.encoding.proofs.Puts.{length-bytes}
 use Rattle.demands.proofs.Stands.{Passed, none-applies}
 use Rattle.demands.proofs.FileBytes.{places-back, behind, two-at, records-at}
 
@@ -32,11 +33,11 @@ read-on rows x p = rw (none-applies rows p)
 -- fit, and its bits
 map-bits : (l : List ℕ) (used root : ℕ)
     → (fileMap (mapByte l used root) .0 ≡ false)
-    × (bit (mapByte l used root) 0 ≡ 1)
-    × (bit (mapByte l used root) 1 ≡ 1)
-    × (bit (mapByte l used root) 2 ≡ bitIf (length l) 1)
-    × (bit (mapByte l used root) 3 ≡ bitIf used 1)
-    × (bit (mapByte l used root) 4 ≡ cond (eqb used 0) (bitIf root 1) 0)
+    × (bit (mapByte l used root) flagsBit ≡ 1)
+    × (bit (mapByte l used root) orderBit ≡ 1)
+    × (bit (mapByte l used root) labelBit ≡ bitIf (length l) 1)
+    × (bit (mapByte l used root) recordsBit ≡ bitIf used 1)
+    × (bit (mapByte l used root) yesBit ≡ cond (eqb used 0) (bitIf root 1) 0)
 unfolding bit
 map-bits [] zero zero = (refl, refl, refl, refl, refl, refl)
 map-bits [] zero (suc root) = (refl, refl, refl, refl, refl, refl)
@@ -110,10 +111,10 @@ module _ (file : List ℕ) (n : ℕ) (o p : List ℕ) (at : ℕ) (front : length
     records-back (r ∷ rs) e h =
         let own = r ∷ rs in
         let k = length own in
-        let start : length (p ++ two k) ≡ at + 2 + 0 * 5 = simp length-append (omega arith) in
-        let records : map (recordAt file (at + 2)) (below k) ≡ own =
-        rw (e, ← append-assoc p (two k) (recordBytes own)) (records-at own (p ++ two k) (at + 2) 0 start) in
-        let end : at + 2 + k * 5 ≡ at + length (recordField own) = omega (arith, length-bytes own) in
+        let start : length (p ++ two k) ≡ at + countSize + 0 * recordSize = simp length-append (omega arith) in
+        let records : map (recordAt file (at + countSize)) (below k) ≡ own =
+        rw (e, ← append-assoc p (two k) (recordBytes own)) (records-at own (p ++ two k) (at + countSize) 0 start) in
+        let end : at + countSize + k * recordSize ≡ at + length (recordField own) = omega (arith, length-bytes own) in
         let past = ended r rs e in
         records-read c file (soFar n o label [] at) (omega arith) (counted r rs e) (λ z. omega arith) h (omega arith) ∙ rw (records, end)
 

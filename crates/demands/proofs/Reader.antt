@@ -14,7 +14,7 @@ use Rattle.rule.specs.Cells.{fitCells}
 use Rattle.rule.specs.Diagram.{tableOf, diagram}
 use Rattle.rule.specs.Refusals.{Row, refusal}
 use Rattle.rule.specs.Reply.{Reply}
-use Rattle.rule.specs.Files.{Reading, count, Outcome, stop, go, andThen, readOr, unless, fieldIf, readMap, readFlags, readOrder, readLabel, readRecords, rootRead, recordCells, laidIn, readEnd, reading, readNumber, readValues, readCells, Reads}
+use Rattle.rule.specs.Files.{flagsBit, orderBit, labelBit, recordsBit, Reading, count, Outcome, stop, go, andThen, readOr, unless, fieldIf, readMap, readFlags, readOrder, readLabel, readRecords, rootRead, recordCells, laidIn, readEnd, reading, readNumber, readValues, readCells, Reads}
 use Rattle.rule.specs.Demands.{StandsFor, Gives}
 use Rattle.theory.proofs.Refused.{numbered}
 use Rattle.theory.proofs.Orders.{rising-fit}
@@ -97,10 +97,10 @@ module _ (c file : List ℕ) where
       let F = Fields c in
       let W = Whole c file in
       then-right F W (readMap c file) _ map-right (λ x h.
-      field-right F W (bit map 0) (readFlags file) x _ h (flags-right x h) (λ x h.
-      field-right F W (bit map 1) (readOrder file) x _ h (order-right x h) (λ x h.
-      field-right F W (bit map 2) (readLabel file) x _ h (label-right x h) (λ x h.
-      field-right F W (bit map 3) (readRecords c file) x _ h (records-right x h) (λ x h. end-right x h)))))
+      field-right F W (bit map flagsBit) (readFlags file) x _ h (flags-right x h) (λ x h.
+      field-right F W (bit map orderBit) (readOrder file) x _ h (order-right x h) (λ x h.
+      field-right F W (bit map labelBit) (readLabel file) x _ h (label-right x h) (λ x h.
+      field-right F W (bit map recordsBit) (readRecords c file) x _ h (records-right x h) (λ x h. end-right x h)))))
 
 -- ---- an accepted file
 

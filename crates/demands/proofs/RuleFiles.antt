@@ -20,9 +20,9 @@ use Rattle.rule.specs.Demands.{Gives, WrittenAs, labelRead, RuleFiles}
 use Rattle.theory.proofs.Bits.{length-below}
 use Rattle.theory.specs.Sound.{Sound}
 use Rattle.theory.proofs.Reach.{diagram-view}
-use Rattle.writing.specs.Run.{recordIn}
-use Rattle.reading.proofs.Aside.{reading-unfit}
-use Rattle.reading.proofs.Laid.{laid-length}
+use Rattle.encoding.specs.Record.{recordIn}
+use Rattle.laying.proofs.Held.{reading-unfit}
+use Rattle.laying.proofs.Laid.{laid-length}
 use Rattle.demands.proofs.Stands.{accepted-reply, passed, none-applies, passed-diagram, diagram-passed}
 use Rattle.demands.proofs.Reader.{read-diagram}
 use Rattle.demands.proofs.Canonical.{root-last}

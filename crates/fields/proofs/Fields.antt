@@ -1,65 +1,19 @@
--- What each field comes to, test by test.
+-- What the order, the label and the records come to, test by test, and all fields together.
 -- Assumes nothing.
-use mathlib.Core.Path.{_≡_, refl, sym, ap, _∙_}
-use mathlib.Core.Bool.{Bool, true, false, not, _&&_}
+use mathlib.Core.Path.{_≡_, sym, ap, _∙_}
+use mathlib.Core.Bool.{Bool, true, false, not}
 use mathlib.Core.List.{List, map}
 use Prim.Native.Nat.{ℕ, _+_, _-_, _*_, _≤_, _<_}
 use native.Mathlib.Omega.{arith}
-use borrow.Author.Tests.{eqb-true, not-true, not-false, ne-eqb, lt-ltb, le-ltb, le-leb, lt-leb}
-use lib.Dec.{eqb}
+use borrow.Author.Tests.{not-true, not-false, ne-eqb, lt-ltb, le-ltb}
 use lib.ListN.{length, getD, take, drop}
 use Rattle.rule.specs.Bits.{bit, below}
 use Rattle.rule.specs.Tests.{each}
-use Rattle.rule.specs.Order.{places, inPlaces, rising, fitOrder}
+use Rattle.rule.specs.Order.{inPlaces, fitOrder}
 use Rattle.rule.specs.Cells.{room}
-use Rattle.rule.specs.Files.{Reading, stop, go, unless, nothingRead, recordAt, twoAt, printable, readFlags, readOrder, readLabel, readRecords}
-use Rattle.fields.specs.Step.{mapRead}
-
--- ---- the bit map
-
-not-both : (a b : ℕ) → (a ≡ 1 → b ≡ 1 → ⊥) → (eqb a 1 && eqb b 1) ≡ false
-not-both a b d = by (eqb a 1) (eqb b 1) (eqb-true a 1) (eqb-true b 1)
-  where
-    by : (x y : Bool) → (x ≡ true → a ≡ 1) → (y ≡ true → b ≡ 1) → (x && y) ≡ false
-    by true true f g = absurd (d (f refl) (g refl))
-    by true false f g = refl
-    by false y f g = refl
-
-module _ (file : List ℕ) where
-  pub map-end : length file < 1 → mapRead file ≡ stop 11
-  unfolding mapRead unless
-  map-end h = rw (lt-ltb (length file) 1 h)
-
-  module _ (h : 1 ≤ length file) where
-    pub map-high : 32 ≤ getD file 0 0 → mapRead file ≡ stop 12
-    unfolding mapRead unless
-    map-high g = rw (le-ltb (length file) 1 h, le-leb 32 (getD file 0 0) g)
-
-    module _ (g : getD file 0 0 < 32) where
-      pub map-both : bit (getD file 0 0) 3 ≡ 1 → bit (getD file 0 0) 4 ≡ 1 → mapRead file ≡ stop 12
-      unfolding mapRead unless
-      map-both p q = rw (le-ltb (length file) 1 h, lt-leb 32 (getD file 0 0) g, p, q)
-
-      pub map-without : (bit (getD file 0 0) 3 ≡ 1 → bit (getD file 0 0) 4 ≡ 1 → ⊥) → mapRead file ≡ go nothingRead
-      unfolding mapRead unless
-      map-without d = rw (le-ltb (length file) 1 h, lt-leb 32 (getD file 0 0) g, not-both (bit (getD file 0 0) 3) (bit (getD file 0 0) 4) d)
-
--- ---- n
-
-module _ (file : List ℕ) (x : Reading) where
-  pub flags-end : length file ≤ x .at → readFlags file x ≡ stop 11
-  unfolding readFlags unless
-  flags-end h = rw (lt-ltb (length file) (x .at + 1) (omega arith))
-
-  module _ (h : x .at < length file) where
-    pub flags-many : 10 < getD file (x .at) 0 → readFlags file x ≡ stop 1
-    unfolding readFlags unless
-    flags-many g = rw (le-ltb (length file) (x .at + 1) (omega arith), lt-ltb 10 (getD file (x .at) 0) g)
-
-    pub flags-read : getD file (x .at) 0 ≤ 10 → {o : List ℕ} → o ≡ rising (getD file (x .at) 0)
-        → readFlags file x ≡ go (record { n = getD file (x .at) 0; places = o; label = x .label; records = x .records; at = x .at + 1 })
-    unfolding readFlags unless
-    flags-read g e = rw (e, le-ltb (length file) (x .at + 1) (omega arith), le-ltb 10 (getD file (x .at) 0) g)
+use Rattle.rule.specs.Files.{flagsBit, orderBit, labelBit, recordsBit, longestLabel, countSize, recordSize, Reading, Outcome, stop, go, andThen, unless, fieldIf, recordAt, twoAt, printable, readFlags, readOrder, readLabel, readRecords}
+use Rattle.cursor.specs.Step.{mapRead}
+use Rattle.fields.specs.Fields.{fieldsRead}
 
 -- ---- the order
 
@@ -90,14 +44,14 @@ module _ (file : List ℕ) (x : Reading) where
     unfolding readLabel unless
     label-none g = rw (le-ltb (length file) (x .at + 1) (omega arith), g)
 
-    module _ (g : getD file (x .at) 0 ≡ 0 → ⊥) (short : getD file (x .at) 0 < 256) where
+    module _ (g : getD file (x .at) 0 ≡ 0 → ⊥) (short : getD file (x .at) 0 ≤ longestLabel) where
       pub label-past : length file < x .at + 1 + getD file (x .at) 0 → readLabel file x ≡ stop 11
       unfolding readLabel unless
       label-past p =
           rw (
             le-ltb (length file) (x .at + 1) (omega arith),
             ne-eqb (getD file (x .at) 0) 0 g,
-            le-ltb 255 (getD file (x .at) 0) (omega arith),
+            le-ltb longestLabel (getD file (x .at) 0) (omega arith),
             lt-ltb (length file) (x .at + 1 + getD file (x .at) 0) p,
           )
 
@@ -113,7 +67,7 @@ module _ (file : List ℕ) (x : Reading) where
             rw (
               le-ltb (length file) (x .at + 1) (omega arith),
               ne-eqb (getD file (x .at) 0) 0 g,
-              le-ltb 255 (getD file (x .at) 0) (omega arith),
+              le-ltb longestLabel (getD file (x .at) 0) (omega arith),
               le-ltb (length file) (x .at + 1 + getD file (x .at) 0) p,
               sym is-printable ∙ not-true a q,
             )
@@ -126,7 +80,7 @@ module _ (file : List ℕ) (x : Reading) where
             rw (
               le-ltb (length file) (x .at + 1) (omega arith),
               ne-eqb (getD file (x .at) 0) 0 g,
-              le-ltb 255 (getD file (x .at) 0) (omega arith),
+              le-ltb longestLabel (getD file (x .at) 0) (omega arith),
               le-ltb (length file) (x .at + 1 + getD file (x .at) 0) p,
               sym is-printable ∙ not-false a q,
             )
@@ -134,41 +88,54 @@ module _ (file : List ℕ) (x : Reading) where
 -- ---- the records
 
 module _ (c file : List ℕ) (x : Reading) where
-  pub records-end : length file < x .at + 2 → readRecords c file x ≡ stop 11
+  pub records-end : length file < x .at + countSize → readRecords c file x ≡ stop 11
   unfolding readRecords unless
-  records-end h = rw (lt-ltb (length file) (x .at + 2) h)
+  records-end h = rw (lt-ltb (length file) (x .at + countSize) h)
 
-  module _ (h : x .at + 2 ≤ length file) {count : ℕ} (e : count ≡ twoAt file (x .at)) where
+  module _ (h : x .at + countSize ≤ length file) {count : ℕ} (e : count ≡ twoAt file (x .at)) where
     pub records-none : count ≡ 0 → readRecords c file x ≡ stop 6
     unfolding readRecords unless
-    records-none g = rw (le-ltb (length file) (x .at + 2) h, ← e, g)
+    records-none g = rw (le-ltb (length file) (x .at + countSize) h, ← e, g)
 
     module _ (g : count ≡ 0 → ⊥) where
       pub records-many : room c < count → readRecords c file x ≡ stop 10
       unfolding readRecords unless
-      records-many p = rw (le-ltb (length file) (x .at + 2) h, ← e, ne-eqb count 0 g, lt-ltb (room c) count p)
+      records-many p = rw (le-ltb (length file) (x .at + countSize) h, ← e, ne-eqb count 0 g, lt-ltb (room c) count p)
 
       module _ (p : count ≤ room c) where
-        pub records-past : length file < x .at + 2 + count * 5 → readRecords c file x ≡ stop 11
+        pub records-past : length file < x .at + countSize + count * recordSize → readRecords c file x ≡ stop 11
         unfolding readRecords unless
         records-past q =
             rw (
-              le-ltb (length file) (x .at + 2) h,
+              le-ltb (length file) (x .at + countSize) h,
               ← e,
               ne-eqb count 0 g,
               le-ltb (room c) count p,
-              lt-ltb (length file) (x .at + 2 + count * 5) q,
+              lt-ltb (length file) (x .at + countSize + count * recordSize) q,
             )
 
-        pub records-read : x .at + 2 + count * 5 ≤ length file
+        pub records-read : x .at + countSize + count * recordSize ≤ length file
             → readRecords c file x
-            ≡ go (record { n = x .n; places = x .places; label = x .label; records = map (recordAt file (x .at + 2)) (below count); at = x .at + 2 + count * 5 })
+            ≡ go (record { n = x .n; places = x .places; label = x .label; records = map (recordAt file (x .at + countSize)) (below count); at = x .at + countSize + count * recordSize })
         unfolding readRecords unless
         records-read q =
             rw (
-              le-ltb (length file) (x .at + 2) h,
+              le-ltb (length file) (x .at + countSize) h,
               ← e,
               ne-eqb count 0 g,
               le-ltb (room c) count p,
-              le-ltb (length file) (x .at + 2 + count * 5) q,
+              le-ltb (length file) (x .at + countSize + count * recordSize) q,
             )
+
+-- ---- the fields together
+
+pub fields-are : (c file : List ℕ) {m : ℕ} {o₁ o₂ o₃ o₄ o₅ : Outcome}
+    → m ≡ getD file 0 0
+    → o₁ ≡ mapRead file
+    → o₂ ≡ andThen o₁ (fieldIf (bit m flagsBit) (readFlags file))
+    → o₃ ≡ andThen o₂ (fieldIf (bit m orderBit) (readOrder file))
+    → o₄ ≡ andThen o₃ (fieldIf (bit m labelBit) (readLabel file))
+    → o₅ ≡ andThen o₄ (fieldIf (bit m recordsBit) (readRecords c file))
+    → o₅ ≡ fieldsRead c file
+unfolding fieldsRead
+fields-are c file e p q r s t = t ∙ rw (s, r, q, p, e)

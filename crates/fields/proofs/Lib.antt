@@ -1,3 +1,3 @@
-pub mod Stepped
 pub mod Fields
-pub mod Places
+mod Places
+pub mod Whole

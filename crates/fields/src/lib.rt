@@ -1,18 +1,7 @@
-// The fields of a rule file (document 01, "Rule files"), each read on from where the last one ended, by a cursor by value.
-mod bytes;
-mod field;
-mod label_field;
+// The fields of a rule file behind n (document 01, "Rule files"): its order, label and records, each read on from where the last one ended, and all together.
+mod all;
+mod label;
 mod order;
 mod records;
-mod step;
 
-pub use bytes::two_at;
-pub use field::bit_map;
-pub use field::read_flags;
-pub use field::read_map;
-pub use label_field::read_label;
-pub use order::read_order;
-pub use records::read_records;
-pub use step::Cursor;
-pub use step::Step;
-pub use step::nothing;
+pub use all::read_fields;

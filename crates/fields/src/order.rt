@@ -1,14 +1,15 @@
-use crate::step::Step;
-use crate::step::nothing;
-use crate::step::stands;
+use cursor::Step;
+use cursor::refused;
+use cursor::stands;
+use rule::ORDER_BIT;
 use rule::Order;
 ghost use mathlib.Core.Path.{_≡_};
 ghost use Prim.Native.Nat.{_+_, _≤_};
 ghost use lib.ListN.{length, take, drop};
 ghost use Rattle.rule.specs.Bits.{bit};
 ghost use Rattle.rule.specs.Order.{inPlaces};
-ghost use Rattle.rule.specs.Files.{andThen, fieldIf, readOrder};
-ghost use Rattle.fields.specs.Step.{outcomeOf, Before, Leads};
+ghost use Rattle.rule.specs.Files.{orderBit, andThen, fieldIf, readOrder};
+ghost use Rattle.cursor.specs.Step.{outcomeOf, Before, Leads};
 
 // An order of n flags from n bytes at a place.
 fn order_at(file: &[u8], at: usize, n: u8) -> Order
@@ -28,20 +29,20 @@ fn order_at(file: &[u8], at: usize, n: u8) -> Order
 // Bit 1, the order: 11, then 4.
 pub fn read_order(file: &[u8], map: u16, step: Step) -> Step
     requires { ⌜ Before (now file) (step .cursor) ⌝ }
-    ensures { λ r. ⌜ Leads (now (file .entry)) (andThen (outcomeOf (now (file .entry)) step) (fieldIf (bit map 1) (readOrder (now (file .entry))))) r ⌝ }
+    ensures { λ r. ⌜ Leads (now (file .entry)) (andThen (outcomeOf (now (file .entry)) step) (fieldIf (bit map orderBit) (readOrder (now (file .entry))))) r ⌝ }
 {
-    if !stands(step, map, 1) {
+    if !stands(step, map, ORDER_BIT) {
         return step;
     }
     let mut cursor = step.cursor;
     let at = cursor.at;
     let n = cursor.n;
     if file.len() - at < n as usize {
-        return nothing(11, 0);
+        return refused(11);
     }
     let order = order_at(file, at, n);
     if !arguments::fit_order(order, n) {
-        return nothing(4, 0);
+        return refused(4);
     }
     cursor.order = order;
     cursor.at = at + n as usize;

@@ -1,86 +1,11 @@
-use crate::laying::lay;
-use fields::Cursor;
-use fields::Step;
-use fields::bit_map;
-use fields::nothing;
-use fields::read_flags;
-use fields::read_label;
-use fields::read_map;
-use fields::read_order;
-use fields::read_records;
+use cursor::bit_map;
+use laying::read_aside;
+use laying::root_of;
 use rule::Loaded;
-use rule::Node;
 use rule::Order;
 use rule::Read;
-ghost use mathlib.Core.Path.{_≡_};
-ghost use Prim.Native.Nat.{_+_, _≤_, _<_};
-ghost use lib.ListN.{length, replicate};
-ghost use Rattle.rule.specs.Cells.{room};
 ghost use Rattle.rule.specs.Answers.{loadedReply};
-ghost use Rattle.rule.specs.Files.{rootRead, Reads, Label};
-ghost use Rattle.fields.specs.Step.{Ends, Whole, fieldsRead};
-ghost use Rattle.reading.specs.Read.{Tested, ReadAside};
-
-// All the fields, from left to right.
-fn fields(file: &[u8], cells: &[u16]) -> Step
-    ensures { λ r. ⌜ Ends (now (cells .entry)) (now (file .entry)) (fieldsRead (now (cells .entry)) (now (file .entry))) r ⌝ }
-{
-    let map = bit_map(file);
-    let start = read_map(file);
-    let flags = read_flags(file, map, start);
-    let order = read_order(file, map, flags);
-    let label = read_label(file, map, order);
-    read_records(file, map, cells, label)
-}
-
-// The root: the last record, or the end node of bit 4.
-fn root_of(map: u16, count: u16) -> u16
-    requires { ⌜ count < 65535 ⌝ }
-    ensures { λ r. ⌜ r ≡ rootRead map count ⌝ }
-{
-    if count == 0 {
-        return bits::bit(map, 4);
-    }
-    count + 1
-}
-
-// Lays a file's records in cells that are 0, and tells whether they are a diagram there.
-fn lay_diagram(file: &[u8], cursor: Cursor, root: u16, held: &mut [u16]) -> bool
-    requires { ⌜ Whole (now held) (now file) cursor × (room (now held) ≤ 1024) × (now held ≡ replicate (length (now held)) 0) × (root ≤ cursor .count + 1) ⌝ }
-    ensures { λ r. ⌜ Tested (now (file .entry)) cursor root (now (held .entry)) r (now (held .exit)) ⌝ }
-{
-    let start = cursor.records;
-    let count = cursor.count;
-    let n = cursor.n;
-    let order = cursor.order;
-    lay(file, start, count, held);
-    checking::is_diagram(n, order, held, count, root)
-}
-
-// The file read and tested: 5, its fields, 11 for bytes left over, then 6. Where nothing is refused, its records lie in the first of `held`.
-fn read_aside(file: &[u8], cells: &[u16], held: &mut [u16]) -> Step
-    requires { ⌜ now held ≡ replicate 3072 0 ⌝ }
-    ensures { λ r. ⌜ ReadAside (now (cells .entry)) (now (file .entry)) (now (held .exit)) r ⌝ }
-{
-    if !cells::fit_cells(cells) {
-        return nothing(5, 0);
-    }
-    let step = fields(file, cells);
-    if step.refused != 0 {
-        return step;
-    }
-    let cursor = step.cursor;
-    let at = cursor.at;
-    if at < file.len() {
-        return nothing(11, 0);
-    }
-    let root = root_of(bit_map(file), cursor.count);
-    let len = cells.len();
-    if !lay_diagram(file, cursor, root, &mut held[0..len]) {
-        return nothing(6, 0);
-    }
-    step
-}
+ghost use Rattle.rule.specs.Files.{Reads, Label};
 
 // Read: n, the order, the record count and the root, with the records in the cells; or why the file is none.
 pub fn read(file: &[u8], cells: &mut [u16]) -> Read
@@ -91,7 +16,7 @@ pub fn read(file: &[u8], cells: &mut [u16]) -> Read
     let refused = step.refused;
     if refused != 0 {
         return Read {
-            order: Order { places: [0u8; 10] },
+            order: Order::ZEROS,
             answer: Loaded::Refused(refused),
         };
     }
@@ -106,7 +31,7 @@ pub fn read(file: &[u8], cells: &mut [u16]) -> Read
         answer: Loaded::Rule {
             n: cursor.n,
             records: count,
-            root: Node { number: root },
+            root,
         },
     }
 }

@@ -1,6 +1,5 @@
-// Rule files read (document 01, "Rule files"): field by field, with the records laid aside; the lent cells are touched only when the whole file is known to be fit.
+// Rule files read (document 01, "Rule files"): the lent cells are touched only when the whole file is known to be fit.
 mod call;
-mod laying;
 
 pub use call::label;
 pub use call::read;

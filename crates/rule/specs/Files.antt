@@ -3,7 +3,7 @@
 use mathlib.Core.Path.{_≡_}
 use mathlib.Core.Bool.{Bool, cond, not, _&&_, _||_}
 use mathlib.Core.List.{List, [], _∷_, _++_, map}
-use Prim.Native.Nat.{ℕ, zero, suc, _+_, _*_, _/_, _%_}
+use Prim.Native.Nat.{ℕ, zero, suc, _+_, _*_, _/_, _%_, _^_}
 use lib.Dec.{eqb, leb, ltb}
 use lib.ListN.{length, getD, take, drop, replicate}
 use denote.Ref.{RefT, ptr, now}
@@ -16,6 +16,37 @@ use Rattle.rule.specs.Refusals.{Row, refusal, flagCount, orderPlaces, ce
 use Rattle.rule.specs.Reply.{Reply, reply, leaves}
 
 -- ---- what a file is made of
+
+-- the bits of the map: "Bit 0: n", "Bit 1: the order", "Bit 2: label", "Bit 3: record count", "Bit 4: .. root is node 1"
+abbrev pub flagsBit : ℕ
+flagsBit = 0
+
+abbrev pub orderBit : ℕ
+orderBit = 1
+
+abbrev pub labelBit : ℕ
+labelBit = 2
+
+abbrev pub recordsBit : ℕ
+recordsBit = 3
+
+abbrev pub yesBit : ℕ
+yesBit = 4
+
+-- a map of this number or above has one of "bits 5 to 7"
+abbrev pub mapEnd : ℕ
+mapEnd = 32
+
+-- the longest label, for reader and writer: "a length byte 1 to 255", "for the writer a label above 255 bytes"
+abbrev pub longestLabel : ℕ
+longestLabel = 255
+
+-- "record count, two bytes", "then five bytes each"
+abbrev pub countSize : ℕ
+countSize = 2
+
+abbrev pub recordSize : ℕ
+recordSize = 5
 
 -- "two bytes, low byte first"
 abbrev pub two : ℕ → List ℕ
@@ -36,7 +67,7 @@ inBytes r = r .flag ∷ two (r .low) ++ two (r .high)
 
 abbrev pub recordAt : List ℕ → ℕ → ℕ → FileRecord
 recordAt file start k =
-    let at = start + k * 5 in
+    let at = start + k * recordSize in
     record { flag = getD file at 0; low = twoAt file (at + 1); high = twoAt file (at + 3) }
 
 -- a part of a file: so many bytes from its start on
@@ -59,11 +90,7 @@ leftOver file end = (ltb end (length file), 11)
 
 -- "bits 5 to 7, or bits 3 and 4 together"
 abbrev pub fileMap : ℕ → Row
-fileMap map = (leb 32 map || (eqb (bit map 3) 1 && eqb (bit map 4) 1), 12)
-
--- the longest label, for reader and writer: "a length byte 1 to 255", "for the writer a label above 255 bytes"
-abbrev pub longestLabel : ℕ
-longestLabel = 255
+fileMap map = (leb mapEnd map || (eqb (bit map recordsBit) 1 && eqb (bit map yesBit) 1), 12)
 
 -- "length 0"
 abbrev pub emptyLabel : ℕ → Row
@@ -161,14 +188,14 @@ readLabel file x =
 unfoldable pub readRecords : List ℕ → List ℕ → Reading → Outcome
 readRecords c file x =
     let count = twoAt file (x .at) in
-    let start = x .at + 2 in
-    let end = start + count * 5 in
+    let start = x .at + countSize in
+    let end = start + count * recordSize in
     unless (pastEnd file start ∷ countOf0 count ∷ result count (room c) ∷ pastEnd file end ∷ [])
     (record { n = x .n; places = x .places; label = x .label; records = map (recordAt file start) (below count); at = end })
 
 -- "Bit 4: no bytes; root is node 1. Without bits 3 and 4 the root is node 0." With records the root is the last of them.
 abbrev pub rootRead : ℕ → ℕ → ℕ
-rootRead map zero = bit map 4
+rootRead map zero = bit map yesBit
 rootRead map (suc k) = suc k + 1
 
 -- the records in cells, one behind the other
@@ -191,10 +218,10 @@ unfoldable pub reading : List ℕ → List ℕ → Outcome
 reading c file =
     let map = getD file 0 0 in
     andThen (readMap c file) λ x.
-    andThen (fieldIf (bit map 0) (readFlags file) x) λ x.
-    andThen (fieldIf (bit map 1) (readOrder file) x) λ x.
-    andThen (fieldIf (bit map 2) (readLabel file) x) λ x.
-    andThen (fieldIf (bit map 3) (readRecords c file) x) λ x. readEnd c file x
+    andThen (fieldIf (bit map flagsBit) (readFlags file) x) λ x.
+    andThen (fieldIf (bit map orderBit) (readOrder file) x) λ x.
+    andThen (fieldIf (bit map labelBit) (readLabel file) x) λ x.
+    andThen (fieldIf (bit map recordsBit) (readRecords c file) x) λ x. readEnd c file x
 
 abbrev pub readNumber : Outcome → ℕ
 readNumber (stop k) = k
@@ -247,9 +274,13 @@ abbrev pub bitIf : ℕ → ℕ → ℕ
 bitIf zero b = 0
 bitIf (suc k) b = b
 
--- the bit map: "The writer always sets bits 0 and 1; it sets the others when needed"
+-- the bit map, by the label's length: "The writer always sets bits 0 and 1; it sets the others when needed"
+abbrev pub mapOf : ℕ → ℕ → ℕ → ℕ
+mapOf size used root =
+    2 ^ flagsBit + 2 ^ orderBit + bitIf size (2 ^ labelBit) + bitIf used (2 ^ recordsBit) + cond (eqb used 0) (bitIf root (2 ^ yesBit)) 0
+
 abbrev pub mapByte : List ℕ → ℕ → ℕ → ℕ
-mapByte l used root = 3 + bitIf (length l) 4 + bitIf used 8 + cond (eqb used 0) (bitIf root 16) 0
+mapByte l used root = mapOf (length l) used root
 
 -- the whole file; "For the writer an empty label means none"
 unfoldable pub fileOf : ℕ → List ℕ → List ℕ → ℕ → ℕ → List ℕ → List ℕ

@@ -7,6 +7,9 @@ pub struct Order {
 }
 
 impl Order {
+    // The order that a refusal hands back: zeros.
+    pub const ZEROS: Order = Order { places: [0; 10] };
+
     // The rising order of n flags: flag 0 is asked first. Of more than ten flags the first ten are named: there are no more places.
     pub fn rising(n: u8) -> Order
         ensures { λ r. ⌜ r .places ≡ rising n ⌝ }

@@ -15,13 +15,13 @@ use Rattle.rule.specs.Cells.{fitCells, sound}
 use Rattle.rule.specs.Diagram.{allReached}
 use Rattle.rule.specs.Refusals.{refusal, orderPlaces, cells, diagramRecords, node, checkRows}
 use Rattle.rule.specs.Reply.{accepted, refused, reply, leaves}
-use Rattle.rule.specs.Files.{two, printable, longestLabel, labelBytes, bitIf, ifSome, recordBytes, recordsIn, fileOf, writeRows, Writes}
+use Rattle.rule.specs.Files.{longestLabel, countSize, recordSize, two, printable, labelBytes, bitIf, ifSome, recordBytes, recordsIn, mapOf, fileOf, writeRows, Writes}
 use Rattle.theory.proofs.Refused.{row-passed, refused-more, passed-more, refused-reply}
 use Rattle.theory.proofs.Sound.{sound-view}
 use Rattle.runs.specs.Run.{over, Puts}
 use Rattle.runs.proofs.Puts.{puts-more}
-use Rattle.writing.specs.Write.{mapOf, sizeOf, ownRows, Writable}
-use Rattle.writing.proofs.Puts.{length-records}
+use Rattle.encoding.proofs.Puts.{length-records}
+use Rattle.writing.specs.Write.{sizeOf, ownRows, Writable}
 
 -- ---- what stands only where there is something
 
@@ -32,13 +32,6 @@ some-is (suc k) x d = refl
 pub some-le : (k x : ℕ) → bitIf k x ≤ x
 some-le zero x = omega arith
 some-le (suc k) x = omega arith
-
-pub some-list : (k : ℕ) (l : List ℕ) → (k ≡ 0 → ⊥) → l ≡ ifSome k l
-some-list zero l d = absurd (d refl)
-some-list (suc k) l d = refl
-
-pub some-long : (k : ℕ) (l : List ℕ) → (k ≡ 0 → ⊥) → length (ifSome k l) ≡ length l
-some-long k l d = ap length (sym (some-list k l d))
 
 some-length : (k : ℕ) (l : List ℕ) {n : ℕ} → length l ≡ n → length (ifSome k l) ≡ bitIf k n
 some-length zero l e = refl
@@ -60,7 +53,7 @@ size-is n o c used root l h =
     let label = ifSome (length l) (length l ∷ l) in
     let records = ifSome used (two used ++ recordBytes (recordsIn c used)) in
     let one : length (length l ∷ l) ≡ length l + 1 = omega arith in
-    let five : length (two used ++ recordBytes (recordsIn c used)) ≡ used * 5 + 2 = omega (arith, length-records c used) in
+    let five : length (two used ++ recordBytes (recordsIn c used)) ≡ used * recordSize + countSize = omega (arith, length-records c used) in
     omega (
       arith,
       length-append (flags n o) (label ++ records),
@@ -108,19 +101,19 @@ file-puts n o c used root l h e p q s t u =
 -- ---- the rows
 
 module _ (size : ℕ) (l bytes : List ℕ) where
-  pub own-long : 255 < length l → 13 ≡ refusal (ownRows size l bytes)
-  own-long h = rw (lt-ltb 255 (length l) h)
+  pub own-long : longestLabel < length l → 13 ≡ refusal (ownRows size l bytes)
+  own-long h = rw (lt-ltb longestLabel (length l) h)
 
-  module _ (h : length l ≤ 255) {a : Bool} (e : a ≡ each printable l) where
+  module _ (h : length l ≤ longestLabel) {a : Bool} (e : a ≡ each printable l) where
     pub own-unprintable : not a ≡ true → 13 ≡ refusal (ownRows size l bytes)
-    own-unprintable f = rw (le-ltb 255 (length l) h, sym e ∙ not-true a f)
+    own-unprintable f = rw (le-ltb longestLabel (length l) h, sym e ∙ not-true a f)
 
     module _ (f : not a ≡ false) where
       pub own-short : length bytes < size → 10 ≡ refusal (ownRows size l bytes)
-      own-short g = rw (le-ltb 255 (length l) h, sym e ∙ not-false a f, lt-ltb (length bytes) size g)
+      own-short g = rw (le-ltb longestLabel (length l) h, sym e ∙ not-false a f, lt-ltb (length bytes) size g)
 
       pub own-none : size ≤ length bytes → 0 ≡ refusal (ownRows size l bytes)
-      own-none g = rw (le-ltb 255 (length l) h, sym e ∙ not-false a f, le-ltb (length bytes) size g)
+      own-none g = rw (le-ltb longestLabel (length l) h, sym e ∙ not-false a f, le-ltb (length bytes) size g)
 
 or-first : (a b : Bool) → (a || b) ≡ false → a ≡ false
 or-first true b e = e

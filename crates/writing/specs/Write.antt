@@ -1,21 +1,16 @@
 -- What the writer computes of a file before it writes it.
 -- Assumes nothing.
-use mathlib.Core.Bool.{cond}
 use mathlib.Core.List.{List, [], _∷_}
 use Prim.Native.Nat.{ℕ, _+_, _*_, _≤_, _<_}
-use lib.Dec.{eqb, ltb}
+use lib.Dec.{ltb}
 use lib.ListN.{length}
 use Rattle.rule.specs.Cells.{room, flagAt}
 use Rattle.rule.specs.Refusals.{Row}
-use Rattle.rule.specs.Files.{bitIf, longestLabel, longLabel, labelBytes, fileOf}
-
--- the bit map, by the label's length
-abbrev pub mapOf : ℕ → ℕ → ℕ → ℕ
-mapOf size used root = 3 + bitIf size 4 + bitIf used 8 + cond (eqb used 0) (bitIf root 16) 0
+use Rattle.rule.specs.Files.{longestLabel, countSize, recordSize, bitIf, longLabel, labelBytes, fileOf}
 
 -- the file's length
 abbrev pub sizeOf : ℕ → ℕ → ℕ → ℕ
-sizeOf n size used = 2 + n + bitIf size (size + 1) + bitIf used (used * 5 + 2)
+sizeOf n size used = 2 + n + bitIf size (size + 1) + bitIf used (used * recordSize + countSize)
 
 -- the rows that only the writer tests, of a file of this length
 abbrev pub ownRows : ℕ → List ℕ → List ℕ → List Row

@@ -1,23 +1,37 @@
-use crate::run::put_flags;
-use crate::run::put_records;
-use crate::run::put_two;
 use arguments::all_printable;
+use encoding::put_counted;
+use encoding::put_flags;
+use encoding::put_label;
+use rule::COUNT_SIZE;
 use rule::Counted;
+use rule::FLAGS_BIT;
+use rule::LABEL_BIT;
+use rule::LONGEST_LABEL;
 use rule::Node;
+use rule::ORDER_BIT;
 use rule::Order;
+use rule::RECORD_SIZE;
+use rule::RECORDS_BIT;
 use rule::Written;
+use rule::YES_BIT;
 use runs::put_byte;
-use runs::put_run;
 ghost use mathlib.Core.Path.{_≡_};
-ghost use mathlib.Core.List.{_∷_, _++_};
-ghost use Prim.Native.Nat.{ℕ, _+_, _*_, _≤_, _<_};
+ghost use Prim.Native.Nat.{_≤_};
 ghost use lib.ListN.{length};
-ghost use Rattle.rule.specs.Cells.{room, flagAt};
 ghost use Rattle.rule.specs.Refusals.{refusal};
 ghost use Rattle.rule.specs.Answers.{writtenReply};
-ghost use Rattle.rule.specs.Files.{two, recordBytes, recordsIn, ifSome, bitIf, fileOf, writeRows, Writes};
+ghost use Rattle.rule.specs.Files.{longestLabel, bitIf, mapOf, fileOf, writeRows, Writes};
 ghost use Rattle.runs.specs.Run.{Puts};
-ghost use Rattle.writing.specs.Write.{mapOf, sizeOf, ownRows, Writable};
+ghost use Rattle.writing.specs.Write.{sizeOf, ownRows, Writable};
+
+// What the map's bits count for: those that the writer always sets, and the others.
+const ALWAYS: usize = (1 << FLAGS_BIT) + (1 << ORDER_BIT);
+
+const LABELLED: usize = 1 << LABEL_BIT;
+
+const RECORDED: usize = 1 << RECORDS_BIT;
+
+const YES: usize = 1 << YES_BIT;
 
 // x where there is something, else 0.
 fn if_some(size: usize, x: usize) -> usize
@@ -33,27 +47,27 @@ fn if_some(size: usize, x: usize) -> usize
 fn map_byte(size: usize, used: u16, root: u16) -> u8
     ensures { λ r. ⌜ r ≡ mapOf size used root ⌝ }
 {
-    let map = 3 + if_some(size, 4);
+    let map = ALWAYS + if_some(size, LABELLED);
     if used == 0 {
-        return (map + if_some(root as usize, 16)) as u8;
+        return (map + if_some(root as usize, YES)) as u8;
     }
-    (map + 8) as u8
+    (map + RECORDED) as u8
 }
 
 // The length of a file of n flags, by its label's length and its record count.
 fn file_size(n: u8, size: usize, used: u16) -> usize
-    requires { ⌜ size ≤ 255 ⌝ }
+    requires { ⌜ size ≤ longestLabel ⌝ }
     ensures { λ r. ⌜ r ≡ sizeOf n size used ⌝ }
 {
     let count = used as usize;
-    2 + n as usize + if_some(size, size + 1) + if_some(count, count * 5 + 2)
+    2 + n as usize + if_some(size, size + 1) + if_some(count, count * RECORD_SIZE + COUNT_SIZE)
 }
 
 // What the writer tests of a label and of the lent bytes, 0 for none: 13, then 10.
 fn own_refusal(n: u8, used: u16, label: &[u8], bytes: &[u8]) -> u8
     ensures { λ r. ⌜ r ≡ refusal (ownRows (sizeOf n (length (now (label .entry))) used) (now (label .entry)) (now (bytes .entry))) ⌝ }
 {
-    if 255 < label.len() {
+    if LONGEST_LABEL < label.len() {
         return 13;
     }
     if !all_printable(label) {
@@ -82,31 +96,6 @@ fn write_refusal(
         Counted::Refused(k) => k,
         Counted::Nodes(_) => own_refusal(n, used, label, bytes),
     }
-}
-
-// Writes a label behind its length, or nothing for an empty one.
-fn put_label(bytes: &mut [u8], at: usize, label: &[u8]) -> usize
-    requires { ⌜ (length (now label) ≤ 255) × (at + length (ifSome (length (now label)) (length (now label) ∷ now label)) ≤ length (now bytes)) ⌝ }
-    ensures { λ r. ⌜ Puts (now (bytes .entry)) at (ifSome (length (now (label .entry))) (length (now (label .entry)) ∷ now (label .entry))) r (now (bytes .exit)) ⌝ }
-{
-    if label.len() == 0 {
-        return at;
-    }
-    let next = put_byte(bytes, at, label.len() as u8);
-    put_run(bytes, next, label)
-}
-
-// Writes the used records behind their count, or nothing for none.
-fn put_counted(bytes: &mut [u8], at: usize, cells: &[u16], used: u16) -> usize
-    requires { ⌜ (used ≤ room (now cells)) × ((k : ℕ) → k < used → flagAt (now cells) k < 256)
-        × (at + length (ifSome used (two used ++ recordBytes (recordsIn (now cells) used))) ≤ length (now bytes)) ⌝ }
-    ensures { λ r. ⌜ Puts (now (bytes .entry)) at (ifSome used (two used ++ recordBytes (recordsIn (now (cells .entry)) used))) r (now (bytes .exit)) ⌝ }
-{
-    if used == 0 {
-        return at;
-    }
-    let next = put_two(bytes, at, used);
-    put_records(bytes, next, cells, used)
 }
 
 // Writes a file that the lent bytes have room for, and hands back its length.

@@ -4,7 +4,7 @@ use native.Mathlib.Omega.{arith}
 use borrow.Author.Needs.{needs}
 use denote.Ref.{now}
 use Rattle.rule.specs.Files.{readOrder}
-use Rattle.fields.proofs.Stepped.{skipped, refuses, reads-on, nothing-before}
+use Rattle.cursor.proofs.Stepped.{skipped, refuses, reads-on, refused-before}
 use Rattle.fields.proofs.Fields.{order-end, order-unfit, order-read}
 use Rattle.fields.proofs.order.read_order.Statement.{statement}
 use Rattle.fields.proofs.order.read_order.Tie as tie
@@ -26,9 +26,9 @@ returns-2 c =
     let file = now (a .file) in
     let within = start .pre .reached in
     record {
-      is = refuses file (a .map) 1 (readOrder file) (a .step) (test .before .stands .ensures) (test .if1 .left) 11 (c .nothing .ensures) (omega arith)
+      is = refuses file (a .map) 1 (readOrder file) (a .step) (test .before .stands .ensures) (test .if1 .left) 11 (c .refused .ensures) (omega arith)
           (order-end file _ (omega (arith, c .before .if2 .taken)));
-      before = nothing-before file 11 (c .nothing .ensures);
+      before = refused-before file 11 (c .refused .ensures);
     }
 
 returns-3 : tie.Need-returns-3
@@ -41,9 +41,9 @@ returns-3 c =
     let file = now (a .file) in
     let within = start .pre .reached in
     record {
-      is = refuses file (a .map) 1 (readOrder file) (a .step) (test .before .stands .ensures) (test .if1 .left) 4 (c .nothing2 .ensures) (omega arith)
+      is = refuses file (a .map) 1 (readOrder file) (a .step) (test .before .stands .ensures) (test .if1 .left) 4 (c .refused2 .ensures) (omega arith)
           (order-unfit file _ (omega (arith, past .if2 .left)) (fit .before .order-at .ensures) (fit .fit-order .ensures) (c .before .if3 .taken));
-      before = nothing-before file 4 (c .nothing2 .ensures);
+      before = refused-before file 4 (c .refused2 .ensures);
     }
 
 returns-4 : tie.Need-returns-4

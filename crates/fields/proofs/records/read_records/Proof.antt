@@ -4,7 +4,8 @@ use native.Mathlib.Omega.{arith}
 use borrow.Author.Needs.{needs}
 use denote.Ref.{now}
 use Rattle.rule.specs.Files.{readRecords}
-use Rattle.fields.proofs.Stepped.{skipped, refuses, reads-on, nothing-whole, before-whole}
+use Rattle.cursor.proofs.Stepped.{skipped, refuses, reads-on}
+use Rattle.fields.proofs.Whole.{refused-whole, before-whole}
 use Rattle.fields.proofs.Fields.{records-end, records-none, records-many, records-past, records-read}
 use Rattle.fields.proofs.records.read_records.Statement.{statement}
 use Rattle.fields.proofs.records.read_records.Tie as tie
@@ -28,9 +29,9 @@ returns-2 c =
     let cells = now (a .cells) in
     let within = start .pre .reached in
     record {
-      is = refuses file (a .map) 3 (readRecords cells file) (a .step) (test .before .stands .ensures) (test .if1 .left) 11 (c .nothing .ensures) (omega arith)
+      is = refuses file (a .map) 3 (readRecords cells file) (a .step) (test .before .stands .ensures) (test .if1 .left) 11 (c .refused .ensures) (omega arith)
           (records-end cells file _ (omega (arith, c .before .if2 .taken)));
-      whole = nothing-whole cells file 11 (c .nothing .ensures);
+      whole = refused-whole cells file 11 (c .refused .ensures);
     }
 
 returns-3 : tie.Need-returns-3
@@ -44,9 +45,9 @@ returns-3 c =
     let cells = now (a .cells) in
     let within = start .pre .reached in
     record {
-      is = refuses file (a .map) 3 (readRecords cells file) (a .step) (test .before .stands .ensures) (test .if1 .left) 6 (c .nothing2 .ensures) (omega arith)
+      is = refuses file (a .map) 3 (readRecords cells file) (a .step) (test .before .stands .ensures) (test .if1 .left) 6 (c .refused2 .ensures) (omega arith)
           (records-none cells file _ (omega (arith, past .if2 .left)) (count .two-at .ensures) (c .before .if3 .taken));
-      whole = nothing-whole cells file 6 (c .nothing2 .ensures);
+      whole = refused-whole cells file 6 (c .refused2 .ensures);
     }
 
 returns-4 : tie.Need-returns-4
@@ -62,9 +63,9 @@ returns-4 c =
     let cells = now (a .cells) in
     let within = start .pre .reached in
     record {
-      is = refuses file (a .map) 3 (readRecords cells file) (a .step) (test .before .stands .ensures) (test .if1 .left) 10 (c .nothing3 .ensures) (omega arith)
+      is = refuses file (a .map) 3 (readRecords cells file) (a .step) (test .before .stands .ensures) (test .if1 .left) 10 (c .refused3 .ensures) (omega arith)
           (records-many cells file _ (omega (arith, past .if2 .left)) (count .two-at .ensures) (some .if3 .left) (omega (arith, c .before .if4 .taken, room .room .ensures)));
-      whole = nothing-whole cells file 10 (c .nothing3 .ensures);
+      whole = refused-whole cells file 10 (c .refused3 .ensures);
     }
 
 returns-5 : tie.Need-returns-5
@@ -81,10 +82,10 @@ returns-5 c =
     let cells = now (a .cells) in
     let within = start .pre .reached in
     record {
-      is = refuses file (a .map) 3 (readRecords cells file) (a .step) (test .before .stands .ensures) (test .if1 .left) 11 (c .nothing4 .ensures) (omega arith)
+      is = refuses file (a .map) 3 (readRecords cells file) (a .step) (test .before .stands .ensures) (test .if1 .left) 11 (c .refused4 .ensures) (omega arith)
           (records-past cells file _ (omega (arith, past .if2 .left)) (count .two-at .ensures) (some .if3 .left) (omega (arith, fits .if4 .left, room .room .ensures))
           (omega (arith, past .if2 .left, c .before .if5 .taken)));
-      whole = nothing-whole cells file 11 (c .nothing4 .ensures);
+      whole = refused-whole cells file 11 (c .refused4 .ensures);
     }
 
 returns-6 : tie.Need-returns-6

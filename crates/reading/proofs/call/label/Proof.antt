@@ -4,7 +4,7 @@ use mathlib.Core.Path.{refl}
 use native.Mathlib.Nat.{add-sub-cancel-left}
 use borrow.Author.Needs.{needs}
 use denote.Ref.{now}
-use Rattle.reading.proofs.Aside.{label-refused, label-read}
+use Rattle.reading.proofs.Answered.{label-refused, label-read}
 use Rattle.reading.proofs.call.label.Statement.{statement}
 use Rattle.reading.proofs.call.label.Tie as tie
 

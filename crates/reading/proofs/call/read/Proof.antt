@@ -4,7 +4,7 @@ use native.Mathlib.Omega.{arith}
 use borrow.Author.Needs.{needs}
 use denote.Ref.{now}
 use Rattle.cells.proofs.Fit.{fit-length}
-use Rattle.reading.proofs.Aside.{read-refused, read-accepted}
+use Rattle.reading.proofs.Answered.{read-refused, read-accepted}
 use Rattle.reading.proofs.call.read.Statement.{statement}
 use Rattle.reading.proofs.call.read.Tie as tie
 

@@ -3,6 +3,7 @@
 use Prim.Native.Nat.{_+_, _*_}
 use native.Mathlib.Omega.{arith}
 use borrow.Author.Needs.{needs}
+use Rattle.rule.specs.Files.{countSize, recordSize}
 use Rattle.writing.proofs.Written.{some-le}
 use Rattle.writing.proofs.call.file_size.Statement.{statement}
 use Rattle.writing.proofs.call.file_size.Tie as tie
@@ -20,5 +21,5 @@ file-size-spec =
     (λ c κs. search needs)
     (λ c.
     let a = c .before .before .args in
-    omega (arith, c .before .if-some .ensures, some-le (a .size) (a .size + 1), c .if-some2 .ensures, some-le (a .used) (a .used * 5 + 2)))
+    omega (arith, c .before .if-some .ensures, some-le (a .size) (a .size + 1), c .if-some2 .ensures, some-le (a .used) (a .used * recordSize + countSize)))
     (λ c. search needs))

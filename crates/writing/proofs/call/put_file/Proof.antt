@@ -44,7 +44,7 @@ put-flags-requires c κs =
     let n = c .before .before .before in
     let map = n .before .before .before .before in
     let start = map .before .before .before .before .before .before in
-    (start .pre .few, omega (arith, parts start, named start, map .put-byte .ensures .next-is, n .put-byte2 .ensures .next-is))
+    (omega (arith, start .pre .few), omega (arith, parts start, named start, map .put-byte .ensures .next-is, n .put-byte2 .ensures .next-is))
 
 put-label-requires : tie.Need-put-label-requires
 put-label-requires c κs =
