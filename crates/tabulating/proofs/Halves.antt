@@ -13,7 +13,6 @@ use lib.ListN.{length, getD, set, take, length-set}
 use lib.Seq.{take-all, getD-set-same, getD-set-other}
 use Rattle.rule.specs.Bits.{bit, setBit}
 use Rattle.rule.specs.Tests.{each}
-use Rattle.rule.specs.Table.{tabled}
 use Rattle.rule.specs.Order.{flags, level}
 use Rattle.rule.specs.Cells.{flagAt}
 use Rattle.rule.specs.Diagram.{walk, tableOf}
