@@ -1,4 +1,4 @@
-// The calls on single diagrams: those of the older commit beside this one's, and the walk beside the same in plain C.
+// The calls on single diagrams: those of the older commit beside this one's, and walk and tabulate beside the same in plain C.
 #include "drawing.h"
 #include "engine.h"
 #include "older/older.h"
@@ -49,6 +49,7 @@ CHECK(old_check, old_engine_check)
     }
 TABULATE(new_tabulate, engine_tabulate)
 TABULATE(old_tabulate, old_engine_tabulate)
+TABULATE(c_tabulate, plain_tabulate)
 
 #define BUILD(name, call)                                                                                                 \
     static uint64_t name(int i) { return call(FLAGS, tables[i], ROWS, rising_order, lent, CELLS); }
@@ -76,6 +77,12 @@ static void make_stores(unsigned records, int whole)
     }
 }
 
+static void must_tabulate(uint64_t (*call)(int), int i)
+{
+    memset(bytes, 2, ROWS);
+    must(call(i) == 0 && memcmp(bytes, tables[i], ROWS) == 0, "a diagram tabulates to another table");
+}
+
 // Random tables, and their diagrams by the engine.
 static void make_diagrams(void)
 {
@@ -88,7 +95,8 @@ static void make_diagrams(void)
         roots[i] = second_value(answer);
         must(refusal(answer) == 0 && answer == old_build(i), "the builds differ");
         must(new_check(i) == (uint64_t)diagrams[i].used << 8 && new_check(i) == old_check(i), "the checks differ");
-        must(new_tabulate(i) == 0 && memcmp(bytes, tables[i], ROWS) == 0, "a diagram tabulates to another table");
+        must_tabulate(new_tabulate, i);
+        must_tabulate(c_tabulate, i);
         sum += diagrams[i].used;
     }
     printf("%d random tables of ten flags have %.1f records each\n", TABLES, sum / TABLES);
@@ -121,6 +129,7 @@ static const struct way checks[2] = {{"old", old_check, 0}, {"new", new_check, 0
 static const struct way tabulates[2] = {{"old", old_tabulate, 0}, {"new", new_tabulate, 0}};
 static const struct way builds[2] = {{"old", old_build, 0}, {"new", new_build, 0}};
 static const struct way plain_walks[2] = {{"engine", new_walk, 0}, {"plain C", c_walk, 0}};
+static const struct way plain_tabulates[2] = {{"engine", new_tabulate, 0}, {"plain C", c_tabulate, 0}};
 
 // Walks of stores with 64, 256 and 1,024 records, in turn or always the first; and how the time grows.
 static void measure_walks(const struct way *ways, int in_turn, int rounds)
@@ -168,5 +177,6 @@ int main(void)
     print_head(plain_walks, 2);
     measure_walks(plain_walks, 1, 200);
     measure_walks(plain_walks, 0, 200);
+    measure_diagrams("tabulate a diagram", plain_tabulates);
     return 0;
 }

@@ -67,7 +67,8 @@ static int sound(unsigned n, const uint8_t *level, const uint16_t *cells, size_t
     return 1;
 }
 
-uint64_t plain_walk(uint8_t n, const uint8_t *order, const uint16_t *cells, size_t length, uint16_t used, uint16_t node, uint16_t row)
+// The refusal of an order and cells, 0 for none: 1, 4, 5, then 6.
+static unsigned unfit(unsigned n, const uint8_t *order, const uint16_t *cells, size_t length, unsigned used)
 {
     uint8_t level[MOST_FLAGS];
     if (n > MOST_FLAGS)
@@ -78,6 +79,14 @@ uint64_t plain_walk(uint8_t n, const uint8_t *order, const uint16_t *cells, size
         return 5;
     if (!sound(n, level, cells, length, used))
         return 6;
+    return 0;
+}
+
+uint64_t plain_walk(uint8_t n, const uint8_t *order, const uint16_t *cells, size_t length, uint16_t used, uint16_t node, uint16_t row)
+{
+    unsigned refused = unfit(n, order, cells, length, used);
+    if (refused != 0)
+        return refused;
     if (node > used + 1)
         return 7;
     if (row >= 1u << n)
@@ -88,4 +97,36 @@ uint64_t plain_walk(uint8_t n, const uint8_t *order, const uint16_t *cells, size
         m = row >> record[0] & 1 ? record[2] : record[1];
     }
     return (uint64_t)m << 8;
+}
+
+// The answers of node m in the rows that have the row's values of the flags before level `at`, those from it on being 0 in the row.
+static void fill(unsigned n, const uint8_t *order, unsigned at, unsigned row, const uint16_t *cells, unsigned m, uint8_t *bytes)
+{
+    if (at == n) {
+        bytes[row] = m;
+        return;
+    }
+    unsigned flag = order[at], low = m, high = m;
+    if (m >= 2 && cells[WIDTH * (m - 2)] == flag) {
+        low = cells[WIDTH * (m - 2) + 1];
+        high = cells[WIDTH * (m - 2) + 2];
+    }
+    fill(n, order, at + 1, row, cells, low, bytes);
+    fill(n, order, at + 1, row | 1u << flag, cells, high, bytes);
+}
+
+uint64_t plain_tabulate(uint8_t n, const uint8_t *order, const uint16_t *cells, size_t length, uint16_t used, uint16_t node, uint8_t *bytes,
+                        size_t rows)
+{
+    if (n > MOST_FLAGS)
+        return 1;
+    if (rows != (size_t)1 << n)
+        return 2;
+    unsigned refused = unfit(n, order, cells, length, used);
+    if (refused != 0)
+        return refused;
+    if (node > used + 1)
+        return 7;
+    fill(n, order, 0, 0, cells, node, bytes);
+    return 0;
 }

@@ -1,24 +1,22 @@
 -- The rules of a drawing: at a leaf every flag is fixed, and before that the rule is split by the next flag of the order into those of its two branches.
 -- Assumes nothing.
 use mathlib.Core.Path.{_≡_, refl, sym, ap, ap₂, _∙_}
-use mathlib.Core.List.{List, [], _∷_, _++_}
-use Prim.Native.Nat.{ℕ, suc, _+_, _≤_, _<_}
-use native.Mathlib.Numerals.{add-one}
+use mathlib.Core.List.{List}
+use Prim.Native.Nat.{ℕ, _+_, _≤_, _<_}
 use native.Mathlib.Omega.{arith}
-use lib.ListN.{length, getD, take, drop}
-use lib.Seq.{take-suc, take-all, getD-take, split-at, length-take-le}
+use lib.ListN.{length, getD, take}
+use lib.Seq.{take-all}
 use Rattle.rule.specs.Bits.{setBit}
 use Rattle.rule.specs.Table.{cofactor}
 use Rattle.rule.specs.Level.{nodesOf}
-use Rattle.rule.specs.Order.{flags, askedBefore, level}
+use Rattle.rule.specs.Order.{flags, level}
 use Rattle.rule.specs.Diagram.{tableOf}
-use Rattle.theory.proofs.Member.{head, append-right}
 use Rattle.theory.proofs.Bits.{bit-same, bit-other, setBit-lt}
 use Rattle.theory.proofs.Cofactor.{row-lt}
 use Rattle.theory.proofs.Sets.{Order}
 use Rattle.theory.proofs.Orders.{order-length, fit-order-is}
 use Rattle.theory.proofs.Perm.{Exactly}
-use Rattle.theory.proofs.Levels.{asked-prefix, asked-exactly}
+use Rattle.theory.proofs.Levels.{place-flag, place-level, place-before, place-next}
 use Rattle.theory.specs.Restrict.{restrict}
 use Rattle.theory.specs.Sound.{Sound}
 use Rattle.theory.proofs.Sound.{sound-view, view-sound}
@@ -57,29 +55,12 @@ module _ {n at row used : ℕ} {t order c : List ℕ} (g : Drawing n t order at 
       }
 
   module _ (h : at < n) where
-    at-flags : getD (flags n order) at 0 ≡ getD order at 0
-    at-flags = getD-take n order at 0 h
-
-    splits : flags n order ≡ take at (flags n order) ++ (getD order at 0 ∷ drop (suc at) (flags n order))
-    splits =
-        split-at (flags n order) at 0 (omega (arith, order-length n (flags n order) ord))
-        ∙ ap (λ (x : ℕ). take at (flags n order) ++ (x ∷ drop (suc at) (flags n order))) at-flags
-
     pub flag-lt : getD order at 0 < n
-    flag-lt = ord .sound (getD order at 0) (rw splits (append-right (take at (flags n order)) (head refl)))
-
-    before-is : askedBefore (getD order at 0) (flags n order) ≡ take at (flags n order)
-    before-is =
-        ap (askedBefore (getD order at 0)) splits
-        ∙ asked-prefix (getD order at 0) (take at (flags n order)) (drop (suc at) (flags n order)) (rw splits at (ord .once))
-
-    level-is : level (flags n order) (getD order at 0) ≡ at
-    level-is = ap length before-is ∙ length-take-le at (flags n order) (omega (arith, order-length n (flags n order) ord))
+    flag-lt = place-flag order ord h
 
     -- the flags that are fixed are those of the levels before
     fixed : Exactly (λ (i : ℕ). (i < n) × (level (flags n order) i < at)) (take at (flags n order))
-    fixed =
-        rw (before-is, length-take-le at (flags n order) (omega (arith, order-length n (flags n order) ord))) at (asked-exactly ord (getD order at 0))
+    fixed = place-before order ord h
 
     -- so the rule that is left ignores them
     pub split : Split n order at (getD order at 0) (restrict (take at (flags n order)) row t)
@@ -91,25 +72,19 @@ module _ {n at row used : ℕ} {t order c : List ℕ} (g : Drawing n t order at 
               fixings-free n i (take at (flags n order)) t (g .rows) (λ j m. fixed .sound j m .0) (fixed .whole i (i<n, l))
               (restrict-in (take at (flags n order)) row t);
           flag = flag-lt;
-          place = level-is;
+          place = place-level order ord h;
         }
 
     -- the rule of a branch is the rule's cofactor
     pub branch-rule : (b x : ℕ) → b < 2 → x ≡ setBit row (getD order at 0) b
         → restrict (take (at + 1) (flags n order)) x t ≡ cofactor (getD order at 0) b (restrict (take at (flags n order)) row t)
     branch-rule b x k e =
-        ap₂ (λ (l : List ℕ) (y : ℕ). restrict l y t) next e
+        ap₂ (λ (l : List ℕ) (y : ℕ). restrict l y t) (place-next order ord h) e
         ∙ restrict-snoc (take at (flags n order)) (getD order at 0) (setBit row (getD order at 0) b) t
         ∙ ap (λ (y : ℕ). cofactor (getD order at 0) y (restrict (take at (flags n order)) (setBit row (getD order at 0) b) t)) (bit-same row (getD order at 0) b k)
         ∙ ap (cofactor (getD order at 0) b)
         (restrict-agree (take at (flags n order)) (setBit row (getD order at 0) b) row t
-        (λ i m. bit-other row (getD order at 0) i b k (λ q. omega (arith, level-is, fixed .sound i m .1, ap (level (flags n order)) q))))
-      where
-        next : take (at + 1) (flags n order) ≡ take at (flags n order) ++ (getD order at 0 ∷ [])
-        next =
-            ap (λ (x : ℕ). take x (flags n order)) (add-one at)
-            ∙ take-suc (flags n order) at 0 (omega (arith, order-length n (flags n order) ord))
-            ∙ ap (λ (x : ℕ). take at (flags n order) ++ (x ∷ [])) at-flags
+        (λ i m. bit-other row (getD order at 0) i b k (λ q. omega (arith, place-level order ord h, fixed .sound i m .1, ap (level (flags n order)) q))))
 
     -- what a branch is given, in the cells as they have grown
     branch-drawing : (b x : ℕ) → b < 2 → x ≡ setBit row (getD order at 0) b → {d : List ℕ} {more : ℕ} → length d ≡ length c → Sound n order d more

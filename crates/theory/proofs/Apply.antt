@@ -18,7 +18,7 @@ use Rattle.theory.proofs.Nodes.{Ignores}
 use Rattle.theory.proofs.Walks.{walk-end, length-tabled, tabled-row, rows-eq}
 
 -- a table that is made row by row is the one that has those rows
-tabled-is : (n : ℕ) (f : ℕ → ℕ) (t : List ℕ) → length t ≡ 2 ^ n → ((r : ℕ) → r < 2 ^ n → f r ≡ getD t r 0) → tabled n f ≡ t
+pub tabled-is : (n : ℕ) (f : ℕ → ℕ) (t : List ℕ) → length t ≡ 2 ^ n → ((r : ℕ) → r < 2 ^ n → f r ≡ getD t r 0) → tabled n f ≡ t
 tabled-is n f t e g = rows-eq n (tabled n f) t (length-tabled n f) e (λ r h. tabled-row n f r h ∙ g r h)
 
 -- ---- an operation on the rows of three tables

@@ -3,14 +3,15 @@
 use mathlib.Core.Path.{_≡_, refl, sym, ap, _∙_}
 use mathlib.Core.Logic.{inl, inr, _≢_, _↔_}
 use mathlib.Core.List.{List, [], _∷_, _++_, append-nil, List·Memᴰ as In, List·Memᴰ·head as head, List·Memᴰ·tail as tail, List·Memᴰ·not-nil as not-nil, List·Memᴰ·cases-cons as cases-cons, Memᴰ·append-right as append-right}
-use Prim.Native.Nat.{ℕ, suc, _<_, suc-le-suc}
+use Prim.Native.Nat.{ℕ, suc, _+_, _<_, suc-le-suc}
 use native.Mathlib.Nat.{le-of-suc-le-suc}
+use native.Mathlib.Numerals.{add-one}
 use native.Mathlib.Decide.{ℕ-discrete}
 use native.Mathlib.Omega.{arith}
 use borrow.Author.Tests.{eq-eqb, ne-eqb}
-use lib.ListN.{length, getD, length-append}
-use lib.Seq.{append-snoc, getD-append-seam}
-use Rattle.rule.specs.Order.{askedBefore, level}
+use lib.ListN.{length, getD, take, drop, length-append}
+use lib.Seq.{append-snoc, getD-append-seam, getD-take, split-at, take-suc, length-take-le}
+use Rattle.rule.specs.Order.{flags, askedBefore, level}
 use Rattle.theory.proofs.Perm.{Once, Within, Exactly, later}
 use Rattle.theory.proofs.Sets.{Order}
 use Rattle.theory.proofs.Orders.{order-length}
@@ -122,3 +123,43 @@ module _ {n : ℕ} {o : List ℕ} (p : Order n o) where
 
   pub whole-turn : Turn n o 0 o
   whole-turn = order-turn [] o [] (sym (append-nil o))
+
+-- ---- the flag that stands at a place
+
+module _ {n at : ℕ} (order : List ℕ) (p : Order n (flags n order)) (h : at < n) where
+  within : at < length (flags n order)
+  within = omega (arith, order-length n (flags n order) p)
+
+  at-flags : getD (flags n order) at 0 ≡ getD order at 0
+  at-flags = getD-take n order at 0 h
+
+  splits : flags n order ≡ take at (flags n order) ++ (getD order at 0 ∷ drop (suc at) (flags n order))
+  splits =
+      split-at (flags n order) at 0 within
+      ∙ ap (λ (x : ℕ). take at (flags n order) ++ (x ∷ drop (suc at) (flags n order))) at-flags
+
+  before-is : askedBefore (getD order at 0) (flags n order) ≡ take at (flags n order)
+  before-is =
+      ap (askedBefore (getD order at 0)) splits
+      ∙ asked-prefix (getD order at 0) (take at (flags n order)) (drop (suc at) (flags n order)) (rw splits at (p .once))
+
+  length-before : length (take at (flags n order)) ≡ at
+  length-before = length-take-le at (flags n order) (omega (arith, within))
+
+  pub place-flag : getD order at 0 < n
+  place-flag = p .sound (getD order at 0) (rw splits (append-right (take at (flags n order)) (head refl)))
+
+  -- its level is the place
+  pub place-level : level (flags n order) (getD order at 0) ≡ at
+  place-level = ap length before-is ∙ length-before
+
+  -- the flags before it are those of the lower levels
+  pub place-before : Exactly (λ (i : ℕ). (i < n) × (level (flags n order) i < at)) (take at (flags n order))
+  place-before = rw (before-is, length-before) at (asked-exactly p (getD order at 0))
+
+  -- and it comes next
+  pub place-next : take (at + 1) (flags n order) ≡ take at (flags n order) ++ (getD order at 0 ∷ [])
+  place-next =
+      ap (λ (x : ℕ). take x (flags n order)) (add-one at)
+      ∙ take-suc (flags n order) at 0 within
+      ∙ ap (λ (x : ℕ). take at (flags n order) ++ (x ∷ [])) at-flags

@@ -5,18 +5,21 @@ use mathlib.Core.List.{List, [], _∷_, _++_}
 use Prim.Native.Nat.{ℕ, zero, suc, _+_, _^_, _≤_, _<_}
 use native.Mathlib.Omega.{arith}
 use borrow.Author.Tests.{lt-ltb, le-ltb, le-leb, lt-leb, eq-eqb, ne-eqb}
-use lib.ListN.{length}
-use lib.Pow.{pow-mono}
+use lib.ListN.{length, take}
+use lib.Pow.{pow-pos}
 use Rattle.rule.specs.Table.{fitLength}
+use Rattle.rule.specs.Order.{flags}
 use Rattle.rule.specs.Diagram.{walk, tableOf}
 use Rattle.rule.specs.Refusals.{refusal, node, rowArgument, tabulateRows}
 use Rattle.rule.specs.Reply.{accepted, refused, reply, leaves}
 use Rattle.theory.proofs.Refused.{refused-more, refused-reply}
 use Rattle.theory.proofs.Sound.{sound-view}
-use Rattle.theory.proofs.Walks.{smaller}
+use Rattle.theory.proofs.Walks.{smaller, walk-lt}
 use Rattle.checking.proofs.Refused.{cellRows, Taken}
 use Rattle.checking.proofs.Parts.{fit-room, sound-room}
-use Rattle.walking.specs.Walk.{Walkable, Rows, walkedRows}
+use Rattle.tabulating.specs.Fill.{Filling, filled}
+use Rattle.tabulating.proofs.Halves.{filled-all}
+use Rattle.walking.specs.Walk.{Walkable}
 use Rattle.rule.specs.Calls.{Walks, Tabulates}
 
 -- ---- cells that were taken
@@ -29,6 +32,10 @@ module _ {n used : ℕ} {o c : List ℕ} (t : Taken n o c used) where
   walkable h =
       let s = sound-view n o c used (t .is-sound) in
       record { fits = s .fits; flags = λ k l. omega (arith, s .flag k l, t .few); smaller = smaller s; node = h }
+
+  -- a walk's answer is an end node
+  pub says-lt : {x : ℕ} (m row : ℕ) → x ≡ walk c m row → m ≤ used + 1 → x < 2
+  says-lt m row e h = omega (arith, e, walk-lt (walkable h .smaller) m row h)
 
 -- ---- walk
 
@@ -79,11 +86,21 @@ module _ (n : ℕ) (o c : List ℕ) (used m : ℕ) (bytes : List ℕ) where
       tabulate-far g =
           under 7 (omega arith) (sym (rw (le-ltb _ _ (t .few), t .ordered, t .lent, t .is-sound, lt-ltb (used + 1) m g)) ∙ rest)
 
-      pub tabulate-rows : m ≤ used + 1 → Rows c used m bytes
-      tabulate-rows g = record { walkable = walkable t g; few = omega (arith, l, pow-mono h) }
+      pub tabulate-start : m ≤ used + 1 → Filling n o 0 0 c used m bytes
+      tabulate-start g =
+          record {
+            few = h;
+            order-fits = t .ordered;
+            is-sound = sound-view n o c used (t .is-sound);
+            row-fits = pow-pos n;
+            node = g;
+            later = omega arith;
+            rows = l;
+          }
 
-      pub tabulate-done : m ≤ used + 1 → {after : List ℕ} → after ≡ walkedRows (length bytes) c m → Tabulates n o c used m bytes (accepted []) after
-      tabulate-done g {after} e =
+      pub tabulate-done : m ≤ used + 1 → {after : List ℕ} → after ≡ filled n (take 0 (flags n o)) 0 c m bytes
+          → Tabulates n o c used m bytes (accepted []) after
+      tabulate-done g e =
           let z : refusal (tabulateRows n o c used m bytes) ≡ 0 =
           sym rest ∙ rw (le-ltb _ _ (t .few), t .ordered, t .lent, t .is-sound, le-ltb (used + 1) m g) in
-          record { answer = rw z; bytes-are = rw z (e ∙ ap (λ (k : ℕ). walkedRows k c m) l) }
+          record { answer = rw z; bytes-are = rw z (e ∙ filled-all n 0 c m bytes) }

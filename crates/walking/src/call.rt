@@ -1,4 +1,3 @@
-use crate::rows::fill;
 use crate::steps::descend;
 use rule::Done;
 use rule::Node;
@@ -45,6 +44,6 @@ pub fn tabulate(n: u8, order: Order, cells: &[u16], used: u16, node: Node, bytes
     if used + 1 < from {
         return Done::Refused(7);
     }
-    fill(cells, used, from, bytes);
+    tabulating::fill(n, order, 0, 0, cells, used, from, bytes);
     Done::Accepted
 }

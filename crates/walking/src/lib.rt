@@ -1,7 +1,6 @@
 // Walks down a diagram and the table of a node (document 01, "Tables, orders, nodes" and "The store"). Both calls take any node of sound cells and don't test
 // reach.
 mod call;
-mod rows;
 mod steps;
 
 pub use call::tabulate;

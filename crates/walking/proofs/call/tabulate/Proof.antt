@@ -4,7 +4,7 @@ use mathlib.Core.Path.{sym, _∙_}
 use native.Mathlib.Omega.{arith}
 use borrow.Author.Needs.{needs}
 use Rattle.checking.proofs.Refused.{Taken, rows-passed}
-use Rattle.walking.proofs.Answer.{few-used, tabulate-many, tabulate-long, tabulate-refused, tabulate-far, tabulate-rows, tabulate-done}
+use Rattle.walking.proofs.Answer.{few-used, tabulate-many, tabulate-long, tabulate-refused, tabulate-far, tabulate-start, tabulate-done}
 use Rattle.walking.proofs.call.tabulate.Statement.{statement}
 use Rattle.walking.proofs.call.tabulate.Tie as tie
 
@@ -41,6 +41,6 @@ tabulate-spec =
     returns-3
     (λ c. omega (arith, few-used (taken c)))
     returns-4
-    (λ c κs. tabulate-rows _ _ _ _ _ _ (c .before .before .before .before .before .before .before .if1 .left) (c .before .before .before .before .before .if2 .left ∙ c .before .before .before .before .before .before .row-count .ensures) (taken (c .before .before)) (c .before .if4 .left))
+    (λ c κs. tabulate-start _ _ _ _ _ _ (c .before .before .before .before .before .before .before .if1 .left) (c .before .before .before .before .before .if2 .left ∙ c .before .before .before .before .before .before .row-count .ensures) (taken (c .before .before)) (omega (arith, c .before .if4 .left)))
     (λ c. search needs)
     returns-5)

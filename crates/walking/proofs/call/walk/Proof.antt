@@ -2,9 +2,8 @@
 -- Assumes nothing.
 use native.Mathlib.Omega.{arith}
 use borrow.Author.Needs.{needs}
-use Rattle.theory.proofs.Walks.{walk-lt}
 use Rattle.checking.proofs.Refused.{Taken, rows-passed}
-use Rattle.walking.proofs.Answer.{few-used, walkable, walk-refused, walk-far, walk-no-row, walk-says}
+use Rattle.walking.proofs.Answer.{few-used, walkable, says-lt, walk-refused, walk-far, walk-no-row, walk-says}
 use Rattle.walking.proofs.call.walk.Statement.{statement}
 use Rattle.walking.proofs.call.walk.Tie as tie
 
@@ -36,8 +35,7 @@ walk-spec =
     returns-2
     (λ c κs. (taken (c .before)) .few)
     returns-3
-    (λ c κs. walkable (taken (c .before .before .before)) (c .before .before .if2 .left))
+    (λ c κs. walkable (taken (c .before .before .before)) (omega (arith, c .before .before .if2 .left)))
     (λ c.
-    let w = walkable (taken (c .before .before .before .before)) (c .before .before .before .if2 .left) in
-    omega (arith, c .descend .ensures, walk-lt (w .smaller) _ (c .before .before .before .before .before .before .before .before .args .row) (w .node)))
+    omega (arith, says-lt (taken (c .before .before .before .before)) _ _ (c .descend .ensures) (omega (arith, c .before .before .before .if2 .left))))
     returns-4)
