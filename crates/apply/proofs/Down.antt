@@ -1,13 +1,12 @@
 -- One step of a recursion over nodes: down from a node by a flag, and from the two branches' nodes to the node of the rule. Join, choose and fix share it.
 -- Assumes nothing.
-use mathlib.Core.Path.{_≡_, sym, ap, _∙_}
+use mathlib.Core.Path.{_≡_, refl, sym, ap, _∙_}
 use mathlib.Core.Logic.{_⊎_, inl, inr}
 use mathlib.Core.List.{List}
-use Prim.Native.Nat.{ℕ, _+_, _-_, _≤_, _<_}
+use Prim.Native.Nat.{ℕ, _+_, _≤_, _<_}
 use native.Mathlib.Decide.{ℕ-discrete, decLt}
 use native.Mathlib.Omega.{arith}
 use borrow.Author.Tests.{le-leb, lt-leb, eq-eqb, ne-eqb}
-use lib.Dec.{leb}
 use Rattle.rule.specs.Table.{cofactor}
 use Rattle.rule.specs.Level.{nodesOf}
 use Rattle.rule.specs.Order.{flags, level}
@@ -28,9 +27,9 @@ use Rattle.unique.specs.declared.node.Grown.{Grown}
 use Rattle.unique.specs.declared.node.Found.{Found}
 use Rattle.unique.specs.declared.node.Found.the-variants.{At, Full}
 use Rattle.unique.specs.Index.{Indexed}
-use Rattle.unique.specs.Node.{grown, foundReply, MakesNode}
+use Rattle.unique.specs.Node.{grown, MakesAbove}
 use Rattle.unique.specs.Search.{FoundAs, Grew}
-use Rattle.unique.proofs.Branches.{Split, no-room-low, no-room-high, both-found}
+use Rattle.unique.proofs.Branches.{Split, no-room-low, both-branches}
 use Rattle.apply.specs.Step.{Stands, earlier}
 use Rattle.apply.specs.Grow.{Ready, From, Comes}
 
@@ -150,17 +149,13 @@ module _ {l : Levels} {t c d index next : List ℕ} {at used : ℕ} {p : Grown} 
         later = omega (arith, y .later, older-level (x .grew .grows) m (y .node));
       }
 
-  -- the node that an older node comes to in the grown store
-  module _ {k m v b q : ℕ} (y : From l c used k m) (flag : v < l .n) (h : lev l v ≤ levOf l c m) (bit : b < 2) (e : q ≡ child d v b m) where
-    below : lev l v ≤ levOf l d m
-    below = omega (arith, older-level (x .grew .grows) m (y .node))
-
+  -- the node that an older node comes to, in the grown store
+  module _ {k m v b q : ℕ} (y : From l c used k m) (flag : v < l .n) (h : lev l v ≤ levOf l c m) (bit : b < 2) (e : q ≡ child c v b m) where
     pub later-from : {j : ℕ} → j ≡ lev l v → From l d (p .used) (j + 1) q
-    later-from = branch-from grown-ready (grown-from y) flag below bit e
+    later-from s = grown-from (branch-from r y flag h bit e s)
 
     pub later-table : tableOf (l .n) d q ≡ cofactor v b (tableOf (l .n) c m)
-    later-table =
-        branch-table grown-ready (grown-from y) flag below bit e ∙ ap (cofactor v b) (older (r .is-sound) (x .grew .grows) m (y .node))
+    later-table = older (r .is-sound) (x .grew .grows) q (branch-from r y flag h bit e refl .node) ∙ branch-table r y flag h bit e
 
 -- ---- the step
 
@@ -174,14 +169,9 @@ grew-later {n} {used} {k} {at} {order} {t} {c} {d} {goal} {r} h x = record { gro
 
 module _ {l : Levels} {t c : List ℕ} {at top v used : ℕ} (s : Split (l .n) (l .order .places) top v t) (h : at ≤ top) where
   module _ {u d i : List ℕ} {p : Grown} {k : ℕ} (low-is : u ≡ cofactor v 0 t) (a : Comes l u k c used p d i) where
-    pub full-low : p .found ≡ Full → Comes l t at c used (record { used = p .used; found = Full }) d i
+    pub full-low : p .found ≡ Full → Comes l t at c used p d i
     full-low e = record { grew = grew-later h (no-room-low s low-is e (a .grew)); indexed = a .indexed }
 
-    module _ {w e j : List ℕ} {q : Grown} {m : ℕ} (high-is : w ≡ cofactor v 1 t) (b : Comes l w m d (p .used) q e j) where
-      pub full-high : q .found ≡ Full → Comes l t at c used (record { used = q .used; found = Full }) e j
-      full-high f = record { grew = grew-later h (no-room-high s low-is high-is (a .grew) (b .grew) f); indexed = b .indexed }
-
-      pub made : top < k → top < m → {low high : ℕ} → p .found ≡ At low → q .found ≡ At high → {r : Grown} {f n : List ℕ}
-          → MakesNode e (q .used) v low high (r .used) (foundReply (r .found)) f → Indexed f (r .used) n → Comes l t at c used r f n
-      made x y at-low at-high g z =
-          record { grew = grew-later h (both-found s low-is high-is (a .grew) (b .grew) x y at-low at-high g); indexed = z }
+    pub made : {w e j : List ℕ} {q : Grown} {m : ℕ} → w ≡ cofactor v 1 t → Comes l w m d (p .used) q e j → top < k → top < m → {low : ℕ} → p .found ≡ At low
+        → {r : Grown} {f n : List ℕ} → MakesAbove e v low q r f × Indexed f (r .used) n → Comes l t at c used r f n
+    made high-is b x y at-low (g, z) = record { grew = grew-later h (both-branches s low-is high-is (a .grew) (b .grew) x y at-low g); indexed = z }

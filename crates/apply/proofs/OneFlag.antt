@@ -9,7 +9,6 @@ use native.Mathlib.Omega.{arith}
 use lib.ListN.{length, getD}
 use Rattle.rule.specs.Bits.{bit, setBit}
 use Rattle.rule.specs.Table.{cofactor, depends}
-use Rattle.rule.specs.Order.{level}
 use Rattle.rule.specs.Diagram.{tableOf}
 use Rattle.rule.specs.Results.{constantTable, flagTable}
 use Rattle.theory.proofs.Bits.{bit-same, bit-other, setBit-lt}
@@ -20,7 +19,7 @@ use Rattle.theory.proofs.Apply.{end-table}
 use Rattle.arguments.specs.declared.level.Levels.{Levels}
 use Rattle.unique.specs.declared.node.Grown.{Grown}
 use Rattle.unique.specs.Index.{Indexed}
-use Rattle.unique.specs.Node.{foundReply, MakesNode}
+use Rattle.unique.specs.Node.{foundReply, MakesNode, above}
 use Rattle.unique.proofs.Branches.{Split}
 use Rattle.apply.specs.Grow.{Ready, Comes}
 use Rattle.apply.proofs.Down.{lev, ord, end-level, there, made}
@@ -72,6 +71,4 @@ module _ {l : Levels} {c index : List ℕ} {used i : ℕ} (r : Ready l c used in
       (level-lt (ord r) i h)
       (level-lt (ord r) i h)
       refl
-      refl
-      m
-      x
+      (above refl m, x)

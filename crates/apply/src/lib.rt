@@ -7,6 +7,8 @@ mod step;
 pub use ending::Outcome;
 pub use ending::settle;
 pub use single::flag_node;
+pub use step::Branches;
+pub use step::both_branches;
 pub use step::branch;
 pub use step::earlier;
 pub use step::level_of;

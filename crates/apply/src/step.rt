@@ -29,19 +29,37 @@ pub fn earlier(levels: Levels, cells: &[u16], f: u16, g: u16) -> u16
     g
 }
 
-// The node that m comes to where a flag has a value: its child if it asks the flag, else itself.
+// The nodes that a node comes to where a flag is 0 and where it is 1.
+pub struct Branches {
+    pub no: u16,
+    pub yes: u16,
+}
+
+// The nodes that m comes to by a flag: its children if it asks the flag, else itself. All three fields are read before the test, which then needs no jump.
+pub fn both_branches(cells: &[u16], flag: u16, m: u16) -> Branches
+    requires { ⌜ m ≤ room (now cells) + 1 ⌝ }
+    ensures { λ r. ⌜ (r .no ≡ child (now (cells .entry)) flag 0 m) × (r .yes ≡ child (now (cells .entry)) flag 1 m) ⌝ }
+{
+    if m < 2 {
+        return Branches { no: m, yes: m };
+    }
+    let asked = cells::flag_at(cells, m - 2);
+    let no = cells::low_at(cells, m - 2);
+    let yes = cells::high_at(cells, m - 2);
+    if asked == flag {
+        return Branches { no, yes };
+    }
+    Branches { no: m, yes: m }
+}
+
+// The node that m comes to where a flag has a value.
 pub fn branch(cells: &[u16], flag: u16, value: u16, m: u16) -> u16
     requires { ⌜ m ≤ room (now cells) + 1 ⌝ }
     ensures { λ r. ⌜ r ≡ child (now (cells .entry)) flag value m ⌝ }
 {
-    if m < 2 {
-        return m;
-    }
-    if cells::flag_at(cells, m - 2) != flag {
-        return m;
-    }
+    let by = both_branches(cells, flag, m);
     if value == 0 {
-        return cells::low_at(cells, m - 2);
+        return by.no;
     }
-    cells::high_at(cells, m - 2)
+    by.yes
 }

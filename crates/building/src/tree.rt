@@ -45,21 +45,11 @@ pub fn draw(
     let first = draw(n, table, order, at + 1, no, cells, index, used);
     let lower = first.found;
     match lower {
-        Found::Full => Grown {
-            used: first.used,
-            found: Found::Full,
-        },
+        Found::Full => first,
         Found::At(low) => {
             let yes = bits::set_bit(row, flag, 1);
             let second = draw(n, table, order, at + 1, yes, cells, index, first.used);
-            let higher = second.found;
-            match higher {
-                Found::Full => Grown {
-                    used: second.used,
-                    found: Found::Full,
-                },
-                Found::At(high) => unique::make(cells, index, second.used, flag, low, high),
-            }
+            unique::make_above(cells, index, flag, low, second)
         }
     }
 }

@@ -126,8 +126,8 @@ module _ {l : Levels} {c index : List ℕ} {used at f g h : ℕ} (r : Ready l c 
             (branch-table r y flag b (omega arith) g-is)
             (branch-table r z flag w (omega arith) h-is)
 
-      module _ {t grown-to next : List ℕ} {m : ℕ} {w : Grown} (grown-by : Comes l t m c used w grown-to next) {i j k : ℕ} (f-is : i ≡ child grown-to v 1 f) (g-is : j ≡ child grown-to v 1 g)
-          (h-is : k ≡ child grown-to v 1 h) where
+      module _ {t grown-to next : List ℕ} {m : ℕ} {w : Grown} (grown-by : Comes l t m c used w grown-to next) {i j k : ℕ} (f-is : i ≡ child c v 1 f) (g-is : j ≡ child c v 1 g)
+          (h-is : k ≡ child c v 1 h) where
         pub high-from : {m : ℕ} → m ≡ lev l v → From l grown-to (w .used) (m + 1) i × From l grown-to (w .used) (m + 1) j × From l grown-to (w .used) (m + 1) k
         high-from s =
             let (flag, _, _, a, b, s′) = top in (

@@ -1,6 +1,7 @@
-use apply::branch;
+use apply::both_branches;
 use apply::earlier;
 use arguments::Levels;
+use rule::Node;
 use unique::Found;
 use unique::Grown;
 ghost use mathlib.Core.Path.{_≡_};
@@ -32,10 +33,10 @@ pub fn choose_nodes(
     requires { ⌜ Ready levels (now cells) used (now index) × From levels (now cells) used at f × From levels (now cells) used at g × From levels (now cells) used at h ⌝ }
     ensures { λ r. ⌜ Comes levels (madeIn (levels .n) (now (cells .entry)) (choose f g h)) at (now (cells .entry)) used r (now (cells .exit)) (now (index .exit)) ⌝ }
 {
-    if f == 0 {
+    if f == Node::NO.number {
         return found(used, h);
     }
-    if f == 1 {
+    if f == Node::YES.number {
         return found(used, g);
     }
     if g == h {
@@ -44,29 +45,25 @@ pub fn choose_nodes(
     let top = earlier(levels, cells, f, earlier(levels, cells, g, h));
     let flag = cells::flag_at(cells, top - 2);
     let next = levels.level(flag) + 1;
-    let f_no = branch(cells, flag, 0, f);
-    let g_no = branch(cells, flag, 0, g);
-    let h_no = branch(cells, flag, 0, h);
-    let first = choose_nodes(levels, next, f_no, g_no, h_no, cells, index, used);
+    let f_by = both_branches(cells, flag, f);
+    let g_by = both_branches(cells, flag, g);
+    let h_by = both_branches(cells, flag, h);
+    let first = choose_nodes(levels, next, f_by.no, g_by.no, h_by.no, cells, index, used);
     let lower = first.found;
     match lower {
-        Found::Full => Grown {
-            used: first.used,
-            found: Found::Full,
-        },
+        Found::Full => first,
         Found::At(low) => {
-            let f_yes = branch(cells, flag, 1, f);
-            let g_yes = branch(cells, flag, 1, g);
-            let h_yes = branch(cells, flag, 1, h);
-            let second = choose_nodes(levels, next, f_yes, g_yes, h_yes, cells, index, first.used);
-            let higher = second.found;
-            match higher {
-                Found::Full => Grown {
-                    used: second.used,
-                    found: Found::Full,
-                },
-                Found::At(high) => unique::make(cells, index, second.used, flag, low, high),
-            }
+            let second = choose_nodes(
+                levels,
+                next,
+                f_by.yes,
+                g_by.yes,
+                h_by.yes,
+                cells,
+                index,
+                first.used,
+            );
+            unique::make_above(cells, index, flag, low, second)
         }
     }
 }

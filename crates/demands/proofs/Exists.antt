@@ -28,11 +28,11 @@ use Rattle.unique.specs.declared.node.Grown.{Grown}
 use Rattle.unique.specs.declared.node.Found.{Found}
 use Rattle.unique.specs.declared.node.Found.the-variants.{At, Full}
 use Rattle.cells.specs.Record.{putRecord}
-use Rattle.unique.specs.Node.{foundReply, grown, Is, None, MakesNode, child, old, new, full}
+use Rattle.unique.specs.Node.{foundReply, grown, Is, None, MakesNode, child, old, new, full, above, none}
 use Rattle.unique.specs.Search.{Grew}
 use Rattle.building.specs.Draw.{Drawing, Draw}
 use Rattle.building.specs.Fill.{Fits}
-use Rattle.unique.proofs.Branches.{no-room-low, no-room-high, both-found}
+use Rattle.unique.proofs.Branches.{no-room-low, both-branches}
 use Rattle.building.proofs.Branches.{leaf, split, branch-rule, first, second}
 use Rattle.building.proofs.Filled.{start, filled, exceeds}
 
@@ -138,10 +138,11 @@ module _ {n at row used : ℕ} {t order c : List ℕ} (g : Drawing n t order at 
 
   high-drawn : {low : ℕ} {p q : Grown} {d e : List ℕ} → p .found ≡ At low → Draw n t order (at + 1) (setBit row (getD order at 0) 0) c used p d
       → Draw n t order (at + 1) (setBit row (getD order at 0) 1) d (p .used) q e → (f : Found) → q .found ≡ f → Drawn n t order at row c used
-  high-drawn at-low a b Full e = (_, _, no-room-high (split g h) (rule 0 (omega arith)) (rule 1 (omega arith)) a b e)
+  high-drawn at-low a b Full e =
+      (_, _, both-branches (split g h) (rule 0 (omega arith)) (rule 1 (omega arith)) a b (omega arith) (omega arith) at-low (none e))
   high-drawn at-low a b (At high) e =
       let (r, d, m) = makes _ _ (getD order at 0) _ high (b .grows .is-sound .fits) in
-      (r, d, both-found (split g h) (rule 0 (omega arith)) (rule 1 (omega arith)) a b (omega arith) (omega arith) at-low e m)
+      (r, d, both-branches (split g h) (rule 0 (omega arith)) (rule 1 (omega arith)) a b (omega arith) (omega arith) at-low (above e m))
 
   low-drawn : {p : Grown} {d : List ℕ} → Draw n t order (at + 1) (setBit row (getD order at 0) 0) c used p d → (f : Found) → p .found ≡ f
       → Drawn n t order at row c used

@@ -80,7 +80,7 @@ module _ {l : Levels} {c index : List ℕ} {used at m i b : ℕ} (r : Ready l c 
         pub low-rule : cofactor i b (tableOf (l .n) c p) ≡ cofactor v 0 (cofactor i b (tableOf (l .n) c m))
         low-rule = branch-rule c p 0 (omega arith) (branch-table r x (own .0) (omega (arith, own .1)) (omega arith) e)
 
-      module _ {t d next : List ℕ} {j : ℕ} {q : Grown} (z : Comes l t j c used q d next) {p : ℕ} (e : p ≡ child d v 1 m) where
+      module _ {t d next : List ℕ} {j : ℕ} {q : Grown} (z : Comes l t j c used q d next) {p : ℕ} (e : p ≡ child c v 1 m) where
         pub high-from : {k : ℕ} → k ≡ levOf l c m → From l d (q .used) (k + 1) p
         high-from s = later-from r z x (own .0) (omega (arith, own .1)) (omega arith) e (s ∙ sym (own .1))
 

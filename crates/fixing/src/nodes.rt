@@ -1,3 +1,4 @@
+use apply::both_branches;
 use apply::branch;
 use apply::level_of;
 use arguments::Levels;
@@ -30,25 +31,23 @@ pub fn fix_node(
         };
     }
     let asked = cells::flag_at(cells, m - 2);
-    let no = branch(cells, asked, 0, m);
-    let first = fix_node(levels, flag, value, own + 1, no, cells, index, used);
+    let by = both_branches(cells, asked, m);
+    let first = fix_node(levels, flag, value, own + 1, by.no, cells, index, used);
     let lower = first.found;
     match lower {
-        Found::Full => Grown {
-            used: first.used,
-            found: Found::Full,
-        },
+        Found::Full => first,
         Found::At(low) => {
-            let yes = branch(cells, asked, 1, m);
-            let second = fix_node(levels, flag, value, own + 1, yes, cells, index, first.used);
-            let higher = second.found;
-            match higher {
-                Found::Full => Grown {
-                    used: second.used,
-                    found: Found::Full,
-                },
-                Found::At(high) => unique::make(cells, index, second.used, asked, low, high),
-            }
+            let second = fix_node(
+                levels,
+                flag,
+                value,
+                own + 1,
+                by.yes,
+                cells,
+                index,
+                first.used,
+            );
+            unique::make_above(cells, index, asked, low, second)
         }
     }
 }

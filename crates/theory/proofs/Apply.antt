@@ -61,10 +61,13 @@ choose-cofactor n f g h = combined-cofactor n (λ x y z. cond (eqb x 1) y z) f g
 pub end-table : (n : ℕ) (c : List ℕ) (m : ℕ) → m < 2 → tableOf n c m ≡ constantTable n m
 end-table n c m h = tabled-is n (walk c m) (constantTable n m) (length-tabled n _) (λ r l. walk-end c m r h ∙ sym (tabled-row n (λ r. m) r l))
 
-pub join-ends : (n code a b : ℕ) → joinTable n code (constantTable n a) (constantTable n b) ≡ constantTable n (digit code a b)
-join-ends n code a b =
-    tabled-is n _ (constantTable n (digit code a b)) (length-tabled n _)
-    (λ r l. rw (tabled-row n (λ r. a) r l, tabled-row n (λ r. b) r l) (sym (tabled-row n (λ r. digit code a b) r l)))
+-- a node whose walk answers, in each row, as the operator does for those of two others
+pub join-node : (n code : ℕ) (c : List ℕ) (f g m : ℕ) → ((r : ℕ) → walk c m r ≡ digit code (walk c f r) (walk c g r))
+    → tableOf n c m ≡ joinTable n code (tableOf n c f) (tableOf n c g)
+join-node n code c f g m e =
+    sym
+    (tabled-is n _ (tableOf n c m) (length-tabled n _)
+    (λ r l. rw (tabled-row n (walk c f) r l, tabled-row n (walk c g) r l, tabled-row n (walk c m) r l) (sym (e r))))
 
 pub choose-yes : (n : ℕ) (g h : List ℕ) → length g ≡ 2 ^ n → chooseTable n (constantTable n 1) g h ≡ g
 choose-yes n g h e = tabled-is n _ g e (λ r l. rw (tabled-row n (λ r. 1) r l))

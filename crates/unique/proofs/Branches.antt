@@ -22,7 +22,7 @@ use Rattle.theory.proofs.Growth.{grows-more, grows-within, older, older-level}
 use Rattle.unique.specs.declared.node.Grown.{Grown}
 use Rattle.unique.specs.declared.node.Found.{Found}
 use Rattle.unique.specs.declared.node.Found.the-variants.{At, Full}
-use Rattle.unique.specs.Node.{foundReply, MakesNode}
+use Rattle.unique.specs.Node.{foundReply, MakesNode, MakesAbove, above, none}
 use Rattle.unique.specs.Search.{Named, Lacks, FoundAs, Grew}
 use Rattle.unique.proofs.Search.{Branch, made}
 
@@ -36,6 +36,10 @@ module _ {n used l : ℕ} {order t c d : List ℕ} {r : Grown} where
   -- or what is lacking
   pub lacks : {goal : List (List ℕ)} → r .found ≡ Full → Grew n order goal l t c used r d → Lacks n goal d (r .used)
   lacks {goal} e x = subst (λ (f : Found). FoundAs f n order goal l t d (r .used)) e (x .is)
+
+  -- and is then lacking for any rule with that goal
+  no-room : {goal : List (List ℕ)} → r .found ≡ Full → Grew n order goal l t c used r d → {k : ℕ} {u : List ℕ} → Grew n order goal k u c used r d
+  no-room {goal} e x {k} {u} = record { grows = x .grows; is = subst (λ (f : Found). FoundAs f n order goal k u d (r .used)) (sym e) (lacks e x) }
 
   -- a larger goal
   pub grew-within : {goal goal′ : List (List ℕ)} → Within goal goal′ → Grew n order goal l t c used r d → Grew n order goal′ l t c used r d
@@ -64,8 +68,8 @@ module _ {n at v : ℕ} {order t : List ℕ} (s : Split n order at v t) where
 
   -- no room in the low branch is no room for the rule
   pub no-room-low : {used l : ℕ} {u c d : List ℕ} {p : Grown} → u ≡ cofactor v 0 t → p .found ≡ Full → Grew n order (nodesOf (flags n order) u) l u c used p d
-      → Grew n order (nodesOf (flags n order) t) at t c used (record { used = p .used; found = Full }) d
-  no-room-low e f a = let x = grew-within (branch-within 0 (omega arith) e) a in record { grows = x .grows; is = lacks f x }
+      → Grew n order (nodesOf (flags n order) t) at t c used p d
+  no-room-low e f a = no-room f (grew-within (branch-within 0 (omega arith) e) a)
 
   module _ {used k l : ℕ} {u w c d e : List ℕ} {p q : Grown} (low-is : u ≡ cofactor v 0 t) (high-is : w ≡ cofactor v 1 t)
       (a : Grew n order (nodesOf (flags n order) u) k u c used p d) (b : Grew n order (nodesOf (flags n order) w) l w d (p .used) q e) where
@@ -73,8 +77,8 @@ module _ {n at v : ℕ} {order t : List ℕ} (s : Split n order at v t) where
     grown-low = grows-within (branch-within 0 (omega arith) low-is) (a .grows)
 
     -- and so is no room in the high one
-    pub no-room-high : q .found ≡ Full → Grew n order (nodesOf (flags n order) t) at t c used (record { used = q .used; found = Full }) e
-    no-room-high f = let x = grew-more grown-low (grew-within (branch-within 1 (omega arith) high-is) b) in record { grows = x .grows; is = lacks f x }
+    no-room-high : q .found ≡ Full → Grew n order (nodesOf (flags n order) t) at t c used q e
+    no-room-high f = no-room f (grew-more grown-low (grew-within (branch-within 1 (omega arith) high-is) b))
 
     module _ {low high : ℕ} (low-later : at < k) (high-later : at < l) (at-low : p .found ≡ At low) (at-high : q .found ≡ At high) where
       low-named : Named n order k u d (p .used) low
@@ -112,9 +116,15 @@ module _ {n at v : ℕ} {order t : List ℕ} (s : Split n order at v t) where
               (low-table ∙ depends-false v t h ∙ sym high-table)))
 
       -- where both were found, the node that has them for children
-      pub both-found : {r : Grown} {f : List ℕ} → MakesNode e (q .used) v low high (r .used) (foundReply (r .found)) f → Grew n order (nodesOf (flags n order) t) at t c used r f
+      both-found : {r : Grown} {f : List ℕ} → MakesNode e (q .used) v low high (r .used) (foundReply (r .found)) f → Grew n order (nodesOf (flags n order) t) at t c used r f
       both-found {r} {f} m =
           grew-more grown-low
           (grew-more (grows-within (branch-within 1 (omega arith) high-is) (b .grows))
           (subst₂ (λ (l : ℕ) (x : List ℕ). Grew n order (nodesOf (flags n order) t) l x e (q .used) r f) (s .place) mixes
           (made (b .grows .is-sound) (s .is-order) branches (nodesOf (flags n order) t) calls m)))
+
+    -- what comes of the low branch's node and of what was found for the high one
+    pub both-branches : {low : ℕ} → at < k → at < l → p .found ≡ At low → {r : Grown} {f : List ℕ} → MakesAbove e v low q r f
+        → Grew n order (nodesOf (flags n order) t) at t c used r f
+    both-branches x y at-low (above at-high m) = both-found x y at-low at-high m
+    both-branches x y at-low (none h) = no-room-high h

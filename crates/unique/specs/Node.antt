@@ -41,3 +41,9 @@ pub data MakesNode (c : List ℕ) (used flag low high : ℕ) : ℕ → Reply →
   new : (low ≡ high → ⊥) → None c used flag low high → used < room c
       → MakesNode c used flag low high (used + 1) (accepted ((used + 2) ∷ [])) (putRecord c used flag low high)
   full : (low ≡ high → ⊥) → None c used flag low high → used ≡ room c → MakesNode c used flag low high used (refused 10 (0 ∷ [])) c
+
+-- the node of a flag above a low node and what was found of the high one: made where that is a node, else what was found
+pub data MakesAbove (c : List ℕ) (flag low : ℕ) (second : Grown) : Grown → List ℕ → Type 0 where
+  above : {high : ℕ} {r : Grown} {d : List ℕ} → second .found ≡ At high → MakesNode c (second .used) flag low high (r .used) (foundReply (r .found)) d
+      → MakesAbove c flag low second r d
+  none : second .found ≡ Full → MakesAbove c flag low second second c

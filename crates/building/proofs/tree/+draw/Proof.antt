@@ -8,13 +8,13 @@ use borrow.Fn.PlainCycle.{Measures, is, falls, and}
 use lib.Pow.{pow-mono}
 use Rattle.theory.proofs.Cofactor.{row-lt}
 use Rattle.building.proofs.Branches.{leaf, flag-lt, split, branch-rule, first, second}
-use Rattle.unique.proofs.Branches.{no-room-low, no-room-high, both-found}
+use Rattle.unique.proofs.Branches.{no-room-low, both-branches}
 use Rattle.building.proofs.tree.draw.Reads as draw
 use Rattle.building.proofs.tree.draw.Kinds as draw-kinds
 use Rattle.building.proofs.tree.+draw.Lts-draw as draw-lts
 use Rattle.building.proofs.tree.end_node.Reads as end-node-reads
 use Rattle.bits.proofs.set_bit.Reads as set-bit-reads
-use Rattle.unique.proofs.make.Reads as make-reads
+use Rattle.unique.proofs.make_above.Reads as make-above-reads
 use Rattle.building.proofs.tree.+draw.{statement}
 use Rattle.building.proofs.tree.+draw.Tie.{close}
 
@@ -35,8 +35,8 @@ pub +draw-spec : {M : Type 1} → statement M
   set-bit-reads.Learnt,
   draw-below t,
   draw.Post,
-  make-reads.Asked,
-  make-reads.Learnt,
+  make-above-reads.Asked,
+  make-above-reads.Learnt,
 )
     (draw-at t)
     draw.Post
@@ -75,10 +75,8 @@ pub +draw-spec : {M : Type 1} → statement M
     let s = low .before .before .before .before .before .before .before .before .pre in
     let h = low .before .before .before .before .before .if1 .left in
     (omega (arith, s .0), (second (s .1 .0) h _ _ (c .before .before .set-bit2 .ensures) (low .draw .ensures .0), low .draw .ensures .1)))
-    (λ c. search needs)
-    (λ c. search needs)
     (λ c κs.
-    let high = c .before .before .before .before .before .before .before in
+    let high = c .before .before .before .before in
     let low = high .before .before .before .before .before .before .before .before .before in
     let g = low .before .before .before .before .before .before .before .before .pre .1 .0 in
     (high .draw2 .ensures .0 .grows .is-sound .fits, omega (arith, g .small, low .draw .ensures .0 .grows .lent, high .draw2 .ensures .0 .grows .lent), high .draw2 .ensures .1))
@@ -90,21 +88,11 @@ pub +draw-spec : {M : Type 1} → statement M
     (no-room-low (split g h) (branch-rule g h 0 _ (omega arith) (low .before .before .before .set-bit .ensures)) (c .enum-told .given .1) (low .draw .ensures .0), low .draw .ensures .1))
     (λ c. search needs)
     (λ c.
-    let high = c .before .before .before .before in
+    let high = c .before .before .before .before .before .before .before in
     let low = high .before .before .before .before .before .before .before .before .before in
     let g = low .before .before .before .before .before .before .before .before .pre .1 .0 in
     let h = low .before .before .before .before .before .if1 .left in (
-      no-room-high (split g h) (branch-rule g h 0 _ (omega arith) (low .before .before .before .set-bit .ensures)) (branch-rule g h 1 _ (omega arith) (high .before .before .before .set-bit2 .ensures))
-          (low .draw .ensures .0) (high .draw2 .ensures .0) (c .enum-told2 .given .1),
-      high .draw2 .ensures .1,
-    ))
-    (λ c. search needs)
-    (λ c.
-    let high = c .before .before .before .before .before .before .before .before .before .before in
-    let low = high .before .before .before .before .before .before .before .before .before in
-    let g = low .before .before .before .before .before .before .before .before .pre .1 .0 in
-    let h = low .before .before .before .before .before .if1 .left in (
-      both-found (split g h) (branch-rule g h 0 _ (omega arith) (low .before .before .before .set-bit .ensures)) (branch-rule g h 1 _ (omega arith) (high .before .before .before .set-bit2 .ensures))
-          (low .draw .ensures .0) (high .draw2 .ensures .0) (omega arith) (omega arith) (high .before .before .before .before .before .lower .given .1) (c .before .before .before .before .before .before .higher .given .1) (c .before .before .make .ensures .0),
-      c .before .before .make .ensures .1,
+      both-branches (split g h) (branch-rule g h 0 _ (omega arith) (low .before .before .before .set-bit .ensures)) (branch-rule g h 1 _ (omega arith) (high .before .before .before .set-bit2 .ensures))
+          (low .draw .ensures .0) (high .draw2 .ensures .0) (omega arith) (omega arith) (high .before .before .before .before .before .lower .given .1) (c .before .before .make-above .ensures .0),
+      c .before .before .make-above .ensures .1,
     ))

@@ -1,0 +1,20 @@
+-- The terminal cases of a join: two nodes whose joined rule is at once an end node or one of the two.
+-- Assumes nothing.
+use mathlib.Core.Bool.{cond}
+use Prim.Native.Nat.{ℕ}
+use lib.Dec.{eqb}
+use Rattle.rule.specs.Cells.{isEnd}
+use Rattle.rule.specs.Results.{digit}
+use Rattle.joining.specs.declared.terminal.Terminal.{Terminal}
+use Rattle.joining.specs.declared.terminal.Terminal.the-variants.{Node, Down}
+
+-- what a node's rule becomes where a digit stands for its no and one for its yes: an end node where they are one, itself for 0 and 1, else its opposite
+unfoldable pub byDigits : ℕ → ℕ → ℕ → Terminal
+byDigits for-no for-yes m = cond (eqb for-no for-yes) (Node for-no) (cond (eqb for-no 0) (Node m) Down)
+
+-- two end nodes; an end node beside a record; a record beside itself
+unfoldable pub terminal : ℕ → ℕ → ℕ → Terminal
+terminal code f g =
+    cond (isEnd f) (cond (isEnd g) (Node (digit code f g)) (byDigits (digit code f 0) (digit code f 1) g))
+    (cond (isEnd g) (byDigits (digit code 0 g) (digit code 1 g) f)
+    (cond (eqb f g) (byDigits (digit code 0 0) (digit code 1 1) f) Down))
