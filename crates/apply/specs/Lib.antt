@@ -1,3 +1,3 @@
 pub mod Step
 pub mod Grow
-pub mod Settle
+pub mod Conclude

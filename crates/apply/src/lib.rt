@@ -5,7 +5,8 @@ mod single;
 mod step;
 
 pub use ending::Outcome;
-pub use ending::settle;
+pub use ending::conclude;
+pub use ending::refuse;
 pub use single::flag_node;
 pub use step::Branches;
 pub use step::both_branches;

@@ -1,3 +1,1 @@
-pub mod Answered
-pub mod Operator
 pub mod Opened

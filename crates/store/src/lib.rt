@@ -1,7 +1,8 @@
 // The store of several rules under one order (document 01, "The store"): its state, which goes into each call and comes back, and the eight calls, which are
 // methods of the state.
-mod making;
+
 mod plain;
+mod rules;
 mod state;
 
 pub use state::Passed;

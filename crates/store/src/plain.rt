@@ -1,13 +1,11 @@
-// The calls that add no record: open, constant, tabulate and walk.
+// The calls that make no rule: open, tabulate and walk.
 use crate::state::Passed;
 use crate::state::Store;
-use crate::state::Stored;
 use crate::state::Walked;
 use rule::Done;
-use rule::Made;
 use rule::Node;
-ghost use Rattle.rule.specs.Answers.{doneReply, madeReply, saidReply};
-ghost use Rattle.rule.specs.Calls.{Open, Constant, Tabulate, Walk};
+ghost use Rattle.rule.specs.Answers.{doneReply, saidReply};
+ghost use Rattle.rule.specs.Calls.{Open, Tabulate, Walk};
 ghost use Rattle.store.specs.State.{stateOf};
 
 impl Store {
@@ -15,17 +13,11 @@ impl Store {
     pub fn open(mut self, cells: &mut [u16]) -> Passed
         ensures { λ r. ⌜ Open (stateOf self) (now (cells .entry)) (doneReply (r .answer)) (stateOf (r .store)) (now (cells .exit)) ⌝ }
     {
-        let refused = arguments::order_refusal(self.n, self.order);
+        let refused = refusing::open_refusal(self.n, self.order, cells);
         if refused != 0 {
             return Passed {
                 store: self,
                 answer: Done::Refused(refused),
-            };
-        }
-        if !cells::fit_cells(cells) {
-            return Passed {
-                store: self,
-                answer: Done::Refused(5),
             };
         }
         cells::clear_from(cells, 0);
@@ -33,30 +25,6 @@ impl Store {
         Passed {
             store: self,
             answer: Done::Accepted,
-        }
-    }
-
-    // Constant: the end node of a value; or why there is none: 1, 4, 5, 6, then 9.
-    pub fn constant(self, cells: &mut [u16], value: u16) -> Stored
-        ensures { λ r. ⌜ Constant (stateOf self) (now (cells .entry)) value (madeReply (r .answer)) (stateOf (r .store)) (now (cells .exit)) ⌝ }
-    {
-        let mut index = [0u16; unique::INDEX];
-        let refused = checking::records_refusal(self.n, self.order, cells, self.used, &mut index);
-        if refused != 0 {
-            return Stored {
-                store: self,
-                answer: Made::Refused(refused),
-            };
-        }
-        if 1 < value {
-            return Stored {
-                store: self,
-                answer: Made::Refused(9),
-            };
-        }
-        Stored {
-            store: self,
-            answer: Made::Rule(Node { number: value }),
         }
     }
 
