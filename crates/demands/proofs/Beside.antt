@@ -18,7 +18,7 @@ use Rattle.rule.specs.Cells.{fitCells, sound}
 use Rattle.rule.specs.Diagram.{tableOf}
 use Rattle.rule.specs.Results.{constantTable, Making, flag, join, choose, fix, rulesAmong, madeFrom, madeIn, needed, firstWith, madeNode}
 use Rattle.rule.specs.Refusals.{Row, refusal, openRows, constantRows, makingRows}
-use Rattle.rule.specs.Reply.{accepted, refused, reply, Accepted, leaves}
+use Rattle.rule.specs.Reply.{reply, Accepted, leaves}
 use Rattle.rule.specs.Calls.{State, withUsed, Open, Constant, Holds, HoldsOr, Make}
 use Rattle.rule.specs.History.{Asked, open-call, constant-call, making-call, tabulate-call, walk-call, Call, MeetsBy, Calls, Fed, feed, OpensBy, BeginsOpen, Book, lookup, inBook, isThere, ruleAt, madeInBook, writeAt, enterBy, enter, bookOf}
 use Rattle.rule.specs.Demands.{Agrees, AgreesThroughout}

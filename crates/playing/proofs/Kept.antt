@@ -21,7 +21,7 @@ use Rattle.history.specs.Request.{askedBy}
 use Rattle.history.specs.declared.requests.Request.{Request}
 use Rattle.playing.specs.Coded.{givenAt}
 use Rattle.playing.specs.Noted.{fedPlayed, emptyBook}
-use Rattle.playing.specs.Played.{CodedFrom, Plays}
+use Rattle.playing.specs.Played.{CodedFrom}
 use Rattle.playing.specs.Kept.{BeginsFit, PlayKept}
 use Rattle.playing.proofs.Read.{plays-fed}
 use Rattle.playing.proofs.playing.play.Reads as play

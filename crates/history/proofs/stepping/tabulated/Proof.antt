@@ -1,6 +1,5 @@
 -- `history::stepping::tabulated` meets its contract: all of the bytes are lent, or their first part.
 -- Assumes nothing.
-use native.Mathlib.Omega.{arith}
 use borrow.Author.Needs.{needs}
 use denote.Ref.{now}
 use Rattle.history.proofs.Part.{all-lent, first-lent}
