@@ -101,6 +101,11 @@ const MADE: &[(&str, &str)] = &[
     ("3 201 0", "f 2;f 0;f 1;j 6 @2 @3;j 4 @1 @4"),
 ];
 
+/// Stores of several numbers of flags in one list, and tabulates into as many bytes as their tables
+/// have rows, or as those of the store before.
+const LENGTHS: &str =
+    "o 2 10 0;f 0;t @1 4;o 3 012 7;f 2;t @4 8;t @4 4;o 1 0 0;t 1 2;t 0 8;o 0 - 1;t 1 1;o 4 3210 0;f 3;t @13 16";
+
 /// Open at its edges, with a call behind each that tells whether the state is fit.
 fn opens(dice: &mut Dice, cells: usize, states: &[&str]) -> Vec<String> {
     let mut list = Scribe::new(dice, cells);
@@ -173,6 +178,13 @@ fn random_steps(dice: &mut Dice, n: usize) -> Vec<String> {
         steps = if list.used() > used { list.calls() } else { steps };
     }
     list.lines[1..=steps].to_vec()
+}
+
+/// These calls, in cells for ten records.
+fn said(dice: &mut Dice, calls: &str) -> Vec<String> {
+    let mut list = Scribe::new(dice, 30);
+    calls.split(';').for_each(|line| drop(list.say(line)));
+    list.end()
 }
 
 /// What a full store is asked: results that need no record, others that may, and unfit arguments.
@@ -297,6 +309,7 @@ fn lists(dice: &mut Dice) -> Vec<Vec<String>> {
     }
     lists.extend([0x0B5E_55ED_CAFE_0002, 0x0B5E_55ED_CAFE_0003].map(|seed| large(&mut Dice(seed))));
     lists.extend((0..185).map(|_| random(dice)));
+    lists.push(said(dice, LENGTHS));
     lists
 }
 

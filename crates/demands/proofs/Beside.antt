@@ -18,11 +18,11 @@ use Rattle.rule.specs.Cells.{fitCells, sound}
 use Rattle.rule.specs.Diagram.{tableOf}
 use Rattle.rule.specs.Results.{constantTable, Making, flag, join, choose, fix, rulesAmong, madeFrom, madeIn, needed, firstWith, madeNode}
 use Rattle.rule.specs.Refusals.{Row, refusal, openRows, constantRows, makingRows}
-use Rattle.rule.specs.Reply.{accepted, refused, reply, Accepted, leaves}
+use Rattle.rule.specs.Reply.{reply, Accepted, leaves}
 use Rattle.rule.specs.Calls.{State, withUsed, Open, Constant, Holds, HoldsOr, Make}
-use Rattle.rule.specs.History.{constant-call, making-call, tabulate-call, walk-call, Left, Call, open-call, other-call, left, Meets, Calls, Opens, BeginsOpen, Book, lookup, inBook, isThere, ruleAt, madeInBook, writeAt, enter, bookOf}
+use Rattle.rule.specs.History.{Asked, open-call, constant-call, making-call, tabulate-call, walk-call, Call, MeetsBy, Calls, Fed, feed, OpensBy, BeginsOpen, Book, lookup, inBook, isThere, ruleAt, madeInBook, writeAt, enterBy, enter, bookOf}
 use Rattle.rule.specs.Demands.{Agrees, AgreesThroughout}
-use Rattle.rule.proofs.Book.{refused-silent, none-silent}
+use Rattle.rule.proofs.Book.{refused-silent}
 use Rattle.theory.proofs.Tests.{and-split}
 use Rattle.theory.proofs.Bits.{below-in}
 use Rattle.theory.proofs.Sound.{view-sound, sound-cleared}
@@ -104,24 +104,28 @@ module _ {s : State} {c : List ℕ} {b : Book} (k : Keeps s c b) where
 
 -- ---- one call
 
+-- what the book is fed of a call that was asked so
+abbrev fed : Asked → Call → Fed
+fed q x = record { asked = q; answer = x .answer }
+
 -- after the call the same holds, and what it wrote over an older table equals it
-abbrev Step : Book → Call → Type 0
-Step b x = After (left x .state) (left x .cells) (enter b x) × Agrees b x
+abbrev Step : Book → Asked → Call → Type 0
+Step b q x = After (x .state) (x .cells) (enterBy b q (x .answer)) × Agrees b (fed q x)
 
 -- a call that writes nothing in the book
-silent-agrees : (b : Book) (x : Call) → enter b x ≡ b → Agrees b x
-silent-agrees b x e m t u p q _ =
+silent-agrees : (b : Book) (e : Fed) → enter b e ≡ b → Agrees b e
+silent-agrees b _ e m t u p q _ =
     let z : some t ≡ some u = sym p ∙ sym (ap (λ (b : Book). inBook b m) e) ∙ q in
     cc
 
 -- a call that leaves the state and the cells as they were, and writes nothing
-silent : {s : State} {c : List ℕ} {b : Book} (x : Call) → left x .state ≡ s → left x .cells ≡ c → enter b x ≡ b → After s c b → Step b x
-silent {b} x se ce e a = (rw (se, ce, e) a, silent-agrees b x e)
+silent : {s : State} {c : List ℕ} {b : Book} (q : Asked) (x : Call) → x .state ≡ s → x .cells ≡ c → enterBy b q (x .answer) ≡ b → After s c b → Step b q x
+silent {b} q x se ce e a = (rw (se, ce, e) a, silent-agrees b (fed q x) e)
 
 -- a call that keeps the older nodes
-kept-agrees : {s : State} {c d : List ℕ} {b : Book} {used : ℕ} (x : Call) → Keeps s c b → Keeps (withUsed s used) d (enter b x)
-    → ((m : ℕ) → m ≤ s .used + 1 → tableOf (s .n) d m ≡ tableOf (s .n) c m) → Agrees b x
-kept-agrees x k k′ kept m t u p q _ =
+kept-agrees : {s : State} {c d : List ℕ} {b : Book} {used : ℕ} (e : Fed) → Keeps s c b → Keeps (withUsed s used) d (enter b e)
+    → ((m : ℕ) → m ≤ s .used + 1 → tableOf (s .n) d m ≡ tableOf (s .n) c m) → Agrees b e
+kept-agrees _ k k′ kept m t u p q _ =
     let (h, old) = k .rules m t p in
     let (_, new) = k′ .rules m u q in
     sym old ∙ sym (kept m h) ∙ new
@@ -175,42 +179,42 @@ module _ (given : State) (c : List ℕ) where
       omega arith
 
   -- an open, where a refused one finds the same to hold
-  open-step : (l : Left) (b : Book) → Open given c (l .answer) (l .state) (l .cells) → ((Accepted (l .answer) → ⊥) → (g : State) × Keeps g c b)
-      → Step b (open-call given l)
-  open-step l b x before = go (refusal (openRows (given .n) (given .places) c)) refl (x .state) (x .answer) (x .cells)
+  open-step : (x : Call) (b : Book) → Open given c (x .answer) (x .state) (x .cells) → ((Accepted (x .answer) → ⊥) → (g : State) × Keeps g c b)
+      → Step b (open-call given) x
+  open-step x b y before = go (refusal (openRows (given .n) (given .places) c)) refl (y .state) (y .answer) (y .cells)
     where
-      go : (k : ℕ) → refusal (openRows (given .n) (given .places) c) ≡ k → l .state ≡ leaves k (withUsed given 0) given → l .answer ≡ reply k []
-          → l .cells ≡ leaves k (replicate (length c) 0) c → Step b (open-call given l)
+      go : (k : ℕ) → refusal (openRows (given .n) (given .places) c) ≡ k → x .state ≡ leaves k (withUsed given 0) given → x .answer ≡ reply k []
+          → x .cells ≡ leaves k (replicate (length c) 0) c → Step b (open-call given) x
       go zero z se ae ce = (rw (se, ae, ce) (live (opened-keeps z)), λ m t u p q other. absurd (other (rw ae tt)))
       go (suc k) z se ae ce =
           let (g, w) = before (λ h. rw ae at h) in
-          let e : enter b (open-call given l) ≡ b = refused-silent b (open-call given l) ae in
-          (rw (se, ce, e) (shut g w (refused-shut k (w .lent) z)), silent-agrees b (open-call given l) e)
+          let e : enterBy b (open-call given) (x .answer) ≡ b = refused-silent b (open-call given) (x .answer) ae in
+          (rw (se, ce, e) (shut g w (refused-shut k (w .lent) z)), silent-agrees b (fed (open-call given) x) e)
 
 -- ---- constant
 
-constant-step : {s : State} {c : List ℕ} {b : Book} (v : ℕ) (l : Left) → Constant s c v (l .answer) (l .state) (l .cells) → After s c b
-    → Step b (other-call (constant-call v) l)
-constant-step {s} {c} {b} v l x a = go a (refusal rows) refl (x .answer)
+constant-step : {s : State} {c : List ℕ} {b : Book} (v : ℕ) (x : Call) → Constant s c v (x .answer) (x .state) (x .cells) → After s c b
+    → Step b (constant-call v) x
+constant-step {s} {c} {b} v x y a = go a (refusal rows) refl (y .answer)
   where
-    call : Call
-    call = other-call (constant-call v) l
+    call : Asked
+    call = constant-call v
 
     rows : List Row
     rows = constantRows (s .n) (s .places) c (s .used) v
 
-    go : After s c b → (k : ℕ) → refusal rows ≡ k → l .answer ≡ reply k (v ∷ []) → Step b call
-    go a (suc k) z ae = silent call (x .state) (x .cells) (refused-silent b call ae) a
+    go : After s c b → (k : ℕ) → refusal rows ≡ k → x .answer ≡ reply k (v ∷ []) → Step b call x
+    go a (suc k) z ae = silent call x (y .state) (y .cells) (refused-silent b call (x .answer) ae) a
     go (shut g w h) zero z ae = absurd (shut-refused s (drop 2 rows) h z)
     go (live w) zero z ae =
         let (_, (_, (_, (_, (p, _))))) = passed rows refl z in
         let h = ltb-false 1 v p in
         let is-t : tableOf (s .n) c v ≡ constantTable (b .n) v =
         end-table (s .n) c v (omega arith) ∙ ap (λ (n : ℕ). constantTable n v) (sym (w .same-n)) in
-        let e : enter b call ≡ writeAt v (some (constantTable (b .n) v)) b = rw ae in
-        let new : Keeps s c (enter b call) =
+        let e : enterBy b call (x .answer) ≡ writeAt v (some (constantTable (b .n) v)) b = rw ae in
+        let new : Keeps s c (enterBy b call (x .answer)) =
         rw e (write-keeps (s .used) v (constantTable (b .n) v) w (w .lent) (w .is-sound) (omega arith) (λ m h. refl) (omega arith) is-t) in
-        (rw (x .state, x .cells) (live new), kept-agrees {used = s .used} call w new (λ m h. refl))
+        (rw (y .state, y .cells) (live new), kept-agrees {used = s .used} (fed call x) w new (λ m h. refl))
 
 -- ---- flag, join, choose and fix
 
@@ -231,13 +235,13 @@ made-le n order c used t = go (eqb (needed n order c used t) 0)
     go true = omega (arith, first-le n c t (below (used + 2)) (used + 1) (λ m i. omega (arith, below-in i)))
     go false = omega arith
 
-making-step : {s : State} {c : List ℕ} {b : Book} (x : Making) (l : Left) → Make s c x (l .answer) (l .state) (l .cells) → After s c b
-    → Step b (other-call (making-call x) l)
+making-step : {s : State} {c : List ℕ} {b : Book} (x : Making) (l : Call) → Make s c x (l .answer) (l .state) (l .cells) → After s c b
+    → Step b (making-call x) l
 unfolding fitCells
 making-step {s} {c} {b} x l y a = go a (refusal rows) refl (y .answer) (y .state) (y .cells)
   where
-    call : Call
-    call = other-call (making-call x) l
+    call : Asked
+    call = making-call x
 
     rows : List Row
     rows = makingRows (s .n) (s .places) c (s .used) x
@@ -269,13 +273,13 @@ making-step {s} {c} {b} x l y a = go a (refusal rows) refl (y .answer) (y .state
         }
 
     go : After s c b → (k : ℕ) → refusal rows ≡ k → l .answer ≡ reply k (node ∷ []) → l .state ≡ leaves k (withUsed s used) s → HoldsOr k s c t (l .cells)
-        → Step b call
-    go a (suc k) z ae se h = silent call se h (refused-silent b call ae) a
+        → Step b call l
+    go a (suc k) z ae se h = silent call l se h (refused-silent b call (l .answer) ae) a
     go (shut g w h) zero z ae se _ = absurd (shut-refused s (drop 2 rows) h z)
     go (live w) zero z ae se h =
-        let e : enter b call ≡ writeAt node (madeInBook b x) b = rw ae in
-        let new : Keeps (withUsed s used) (l .cells) (enter b call) = rw e (keeps w h (each (λ m. isThere (inBook b m)) (rulesAmong x)) refl) in
-        (rw se (live new), kept-agrees {used = used} call w new (h .kept))
+        let e : enterBy b call (l .answer) ≡ writeAt node (madeInBook b x) b = rw ae in
+        let new : Keeps (withUsed s used) (l .cells) (enterBy b call (l .answer)) = rw e (keeps w h (each (λ m. isThere (inBook b m)) (rulesAmong x)) refl) in
+        (rw se (live new), kept-agrees {used = used} (fed call l) w new (h .kept))
 
 -- ---- a list of calls
 
@@ -283,29 +287,33 @@ base : {s : State} {c : List ℕ} {b : Book} → After s c b → (g : State) × 
 base {s} (live k) = (s, k)
 base (shut g k _) = (g, k)
 
-step : {s : State} {c : List ℕ} {b : Book} (x : Call) → Meets s c x → After s c b → Step b x
-step {c} {b} (open-call given l) y a = open-step given c l b y (λ _. base a)
-step (other-call (constant-call v) l) y a = constant-step v l y a
-step (other-call (making-call x) l) y a = making-step x l y a
-step (other-call (tabulate-call m bytes) l) (y, e) a = silent (other-call (tabulate-call m bytes) l) (y .state) e (none-silent (l .answer)) a
-step (other-call (walk-call m row) l) (y, e) a = silent (other-call (walk-call m row) l) (y .state) e (none-silent (l .answer)) a
+step : {s : State} {c : List ℕ} {b : Book} (q : Asked) (x : Call) → MeetsBy q s c x → After s c b → Step b q x
+step {c} {b} (open-call given) x y a = open-step given c x b y (λ _. base a)
+step (constant-call v) x y a = constant-step v x y a
+step (making-call m) x y a = making-step m x y a
+step (tabulate-call m) x (y, e) a = silent (tabulate-call m) x (y .state) e refl a
+step (walk-call m row) x (y, e) a = silent (walk-call m row) x (y .state) e refl a
 
 -- from an accepted open, whatever was before
-first-step : (s : State) (c : List ℕ) (b : Book) (x : Call) → Meets s c x → Opens x → Step b x
-first-step s c b (open-call given l) y h = open-step given c l b y (λ d. absurd (d h))
-first-step s c b (other-call a l) y h = absurd h
+first-step : (s : State) (c : List ℕ) (b : Book) (q : Asked) (x : Call) → MeetsBy q s c x → OpensBy q (x .answer) → Step b q x
+first-step s c b (open-call given) x y h = open-step given c x b y (λ d. absurd (d h))
+first-step s c b (constant-call v) x y h = absurd h
+first-step s c b (making-call m) x y h = absurd h
+first-step s c b (tabulate-call m) x y h = absurd h
+first-step s c b (walk-call m row) x y h = absurd h
 
-pub steps : {s s′ : State} {c d : List ℕ} {b : Book} (xs : List Call) → Calls s c xs s′ d → After s c b → After s′ d (bookOf b xs) × AgreesThroughout b xs
+pub steps : {s s′ : State} {c d : List ℕ} {b : Book} (xs : List Call) → Calls s c xs s′ d → After s c b
+    → After s′ d (bookOf b (feed xs)) × AgreesThroughout b (feed xs)
 steps [] (se, ce) a = (rw (se, ce) a, tt)
 steps (x ∷ xs) (y, ys) a =
-    let (next, agrees) = step x y a in
+    let (next, agrees) = step (x .asked) x y a in
     let (last, throughout) = steps xs ys next in
     (last, (agrees, throughout))
 
-pub steps-from-open : (s s′ : State) (c d : List ℕ) (b : Book) (xs : List Call) → Calls s c xs s′ d → BeginsOpen xs
-    → After s′ d (bookOf b xs) × AgreesThroughout b xs
+pub steps-from-open : (s s′ : State) (c d : List ℕ) (b : Book) (xs : List Call) → Calls s c xs s′ d → BeginsOpen (feed xs)
+    → After s′ d (bookOf b (feed xs)) × AgreesThroughout b (feed xs)
 steps-from-open s s′ c d b [] ys h = absurd h
 steps-from-open s s′ c d b (x ∷ xs) (y, ys) h =
-    let (next, agrees) = first-step s c b x y h in
+    let (next, agrees) = first-step s c b (x .asked) x y h in
     let (last, throughout) = steps xs ys next in
     (last, (agrees, throughout))

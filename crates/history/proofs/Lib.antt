@@ -1,2 +1,1 @@
-pub mod More
-pub mod Kept
+pub mod Part

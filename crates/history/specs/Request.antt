@@ -1,13 +1,14 @@
--- A request and its answer as the definitions of crate rule have them.
+-- A request, its answer and what it leaves, as the definitions of crate rule have them.
 -- Assumes nothing.
 use mathlib.Core.Path.{_≡_}
 use mathlib.Core.List.{List}
 use Prim.Native.Nat.{ℕ}
+use lib.ListN.{take, drop}
 use Rattle.rule.specs.Results.{flag, join, choose, fix}
 use Rattle.rule.specs.Reply.{Reply}
 use Rattle.rule.specs.Answers.{doneReply, madeReply, saidReply}
 use Rattle.rule.specs.Calls.{State}
-use Rattle.rule.specs.History.{constant-call, making-call, tabulate-call, walk-call, Left, Call, open-call, other-call}
+use Rattle.rule.specs.History.{Asked, open-call, constant-call, making-call, tabulate-call, walk-call, Call, Meets}
 use Rattle.store.specs.State.{stateOf}
 use Rattle.history.specs.declared.requests.Request.{Request}
 use Rattle.history.specs.declared.requests.Request.the-variants as the-request
@@ -15,34 +16,77 @@ use Rattle.history.specs.declared.stepping.Answer.{Answer}
 use Rattle.history.specs.declared.stepping.Answer.the-variants as the-answer
 use Rattle.history.specs.declared.stepping.Reached.{Reached}
 
+-- ---- what is asked
+
+-- the call that a request asks for, where open is given this state
+abbrev pub askedBy : Request → State → Asked
+askedBy the-request.Open given = open-call given
+askedBy (the-request.Constant v) given = constant-call v
+askedBy (the-request.Flag i) given = making-call (flag i)
+askedBy (the-request.Join code f g) given = making-call (join code (f .number) (g .number))
+askedBy (the-request.Choose f g h) given = making-call (choose (f .number) (g .number) (h .number))
+askedBy (the-request.Fix m i b) given = making-call (fix (m .number) i b)
+askedBy (the-request.Tabulate m length) given = tabulate-call (m .number)
+askedBy (the-request.Walk m row) given = walk-call (m .number) row
+
+-- how many of the bytes, from the first on, a call is lent (all of them, where there are fewer): tabulate as many as the request says, any other none
+abbrev pub part : Request → ℕ
+part the-request.Open = 0
+part (the-request.Constant v) = 0
+part (the-request.Flag i) = 0
+part (the-request.Join code f g) = 0
+part (the-request.Choose f g h) = 0
+part (the-request.Fix m i b) = 0
+part (the-request.Tabulate m length) = length
+part (the-request.Walk m row) = 0
+
+-- ---- what is answered
+
 -- an answer as the paper counts it
 abbrev pub answerReply : Answer → Reply
 answerReply (the-answer.Done a) = doneReply a
 answerReply (the-answer.Made a) = madeReply a
 answerReply (the-answer.Said a) = saidReply a
 
--- what a call handed back, with the cells and the bytes that it left
-abbrev pub leftBy : Reached → List ℕ → List ℕ → Left
-leftBy r cells bytes = record { answer = answerReply (r .answer); state = stateOf (r .store); cells = cells; bytes = bytes }
+-- the kinds of answer: none but that the call is done, a rule's node, what a rule says of a row
+pub data Kind : Type 0 where
+  done-kind made-kind said-kind : Kind
 
--- the call that a request asks for: open is given this state, and tabulate is lent these bytes
-abbrev pub callOf : Request → State → List ℕ → Left → Call
-callOf the-request.Open given bytes l = open-call given l
-callOf (the-request.Constant v) given bytes l = other-call (constant-call v) l
-callOf (the-request.Flag i) given bytes l = other-call (making-call (flag i)) l
-callOf (the-request.Join code f g) given bytes l = other-call (making-call (join code (f .number) (g .number))) l
-callOf (the-request.Choose f g h) given bytes l = other-call (making-call (choose (f .number) (g .number) (h .number))) l
-callOf (the-request.Fix m i b) given bytes l = other-call (making-call (fix (m .number) i b)) l
-callOf (the-request.Tabulate m) given bytes l = other-call (tabulate-call (m .number) bytes) l
-callOf (the-request.Walk m row) given bytes l = other-call (walk-call (m .number) row) l
+abbrev pub answerKind : Answer → Kind
+answerKind (the-answer.Done a) = done-kind
+answerKind (the-answer.Made a) = made-kind
+answerKind (the-answer.Said a) = said-kind
 
--- only tabulate writes the bytes
-abbrev pub KeepsBytes : Request → List ℕ → List ℕ → Type 0
-KeepsBytes the-request.Open b b′ = b′ ≡ b
-KeepsBytes (the-request.Constant v) b b′ = b′ ≡ b
-KeepsBytes (the-request.Flag i) b b′ = b′ ≡ b
-KeepsBytes (the-request.Join code f g) b b′ = b′ ≡ b
-KeepsBytes (the-request.Choose f g h) b b′ = b′ ≡ b
-KeepsBytes (the-request.Fix m i v) b b′ = b′ ≡ b
-KeepsBytes (the-request.Tabulate m) b b′ = Unit {0}
-KeepsBytes (the-request.Walk m row) b b′ = b′ ≡ b
+-- the kind that belongs to a request
+abbrev pub requestKind : Request → Kind
+requestKind the-request.Open = done-kind
+requestKind (the-request.Constant v) = made-kind
+requestKind (the-request.Flag i) = made-kind
+requestKind (the-request.Join code f g) = made-kind
+requestKind (the-request.Choose f g h) = made-kind
+requestKind (the-request.Fix m i b) = made-kind
+requestKind (the-request.Tabulate m length) = done-kind
+requestKind (the-request.Walk m row) = said-kind
+
+-- ---- the call
+
+-- the call as it was made: it reached r, and left cells d and, of bytes that were b, b′
+abbrev pub callOf : Request → State → List ℕ → Reached → List ℕ → List ℕ → Call
+callOf q given b r d b′ =
+    record {
+      asked = askedBy q given;
+      lent = take (part q) b;
+      answer = answerReply (r .answer);
+      state = stateOf (r .store);
+      cells = d;
+      bytes = take (part q) b′;
+    }
+
+-- one call by its request, from state s (open: the given one), cells c and bytes b
+pub record Steps (q : Request) (s given : State) (c b : List ℕ) (r : Reached) (d b′ : List ℕ) : Type 0 where
+  -- it met its contract
+  pub met : Meets s c (callOf q given b r d b′)
+  -- its answer is of the kind that belongs to it
+  pub kind : answerKind (r .answer) ≡ requestKind q
+  -- bytes behind those that it was lent are as found
+  pub behind : drop (part q) b′ ≡ drop (part q) b

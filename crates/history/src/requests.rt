@@ -20,7 +20,11 @@ pub enum Request {
         flag: u16,
         value: u16,
     },
-    Tabulate(Node),
+    // Into so many of the lent bytes, from the first on.
+    Tabulate {
+        rule: Node,
+        length: u16,
+    },
     Walk {
         rule: Node,
         row: u16,

@@ -1,16 +1,18 @@
 use crate::requests::Request;
 use rule::Done;
 use rule::Made;
+use rule::Node;
 use rule::Said;
 use store::Passed;
 use store::Store;
 use store::Stored;
 use store::Walked;
 ghost use mathlib.Core.Path.{_≡_};
-ghost use Rattle.rule.specs.Answers.{doneReply, madeReply, saidReply};
-ghost use Rattle.rule.specs.History.{Meets};
+ghost use lib.ListN.{take, drop};
+ghost use Rattle.rule.specs.Answers.{doneReply};
+ghost use Rattle.rule.specs.Calls.{Tabulate};
 ghost use Rattle.store.specs.State.{stateOf};
-ghost use Rattle.history.specs.Request.{answerReply, callOf, leftBy, KeepsBytes};
+ghost use Rattle.history.specs.Request.{Steps};
 
 // What a call answers, whichever it is.
 pub enum Answer {
@@ -27,7 +29,7 @@ pub struct Reached {
 
 // What a call reached that hands back no value of its own.
 fn done(passed: Passed) -> Reached
-    ensures { λ r. ⌜ (r .store ≡ passed .store) × (answerReply (r .answer) ≡ doneReply (passed .answer)) ⌝ }
+    ensures { λ r. ⌜ (r .store ≡ passed .store) × (r .answer ≡ Answer.Done (passed .answer)) ⌝ }
 {
     let store = passed.store;
     let answer = passed.answer;
@@ -39,7 +41,7 @@ fn done(passed: Passed) -> Reached
 
 // What a call reached that makes a rule.
 fn made(stored: Stored) -> Reached
-    ensures { λ r. ⌜ (r .store ≡ stored .store) × (answerReply (r .answer) ≡ madeReply (stored .answer)) ⌝ }
+    ensures { λ r. ⌜ (r .store ≡ stored .store) × (r .answer ≡ Answer.Made (stored .answer)) ⌝ }
 {
     let store = stored.store;
     let answer = stored.answer;
@@ -51,7 +53,7 @@ fn made(stored: Stored) -> Reached
 
 // What a walk reached.
 fn said(walked: Walked) -> Reached
-    ensures { λ r. ⌜ (r .store ≡ walked .store) × (answerReply (r .answer) ≡ saidReply (walked .answer)) ⌝ }
+    ensures { λ r. ⌜ (r .store ≡ walked .store) × (r .answer ≡ Answer.Said (walked .answer)) ⌝ }
 {
     let store = walked.store;
     let answer = walked.answer;
@@ -59,6 +61,18 @@ fn said(walked: Walked) -> Reached
         store,
         answer: Answer::Said(answer),
     }
+}
+
+// Tabulate into so many of the lent bytes, from the first on: into all, where there are fewer.
+fn tabulated(store: Store, cells: &[u16], rule: Node, length: u16, bytes: &mut [u8]) -> Passed
+    ensures { λ r. ⌜ Tabulate (stateOf store) (now (cells .entry)) (rule .number) (take length (now (bytes .entry))) (doneReply (r .answer)) (stateOf (r .store)) (take length (now (bytes .exit))) ⌝ }
+    ensures { λ r. ⌜ drop length (now (bytes .exit)) ≡ drop length (now (bytes .entry)) ⌝ }
+{
+    let end = length as usize;
+    if bytes.len() <= end {
+        return store.tabulate(cells, rule, bytes);
+    }
+    store.tabulate(cells, rule, &mut bytes[0..end])
 }
 
 // Make one call: open is given the state `given`, any other the state `store`.
@@ -69,8 +83,7 @@ pub fn step(
     cells: &mut [u16],
     bytes: &mut [u8],
 ) -> Reached
-    ensures { λ r. ⌜ Meets (stateOf store) (now (cells .entry)) (callOf request (stateOf given) (now (bytes .entry)) (leftBy r (now (cells .exit)) (now (bytes .exit)))) ⌝ }
-    ensures { λ r. ⌜ KeepsBytes request (now (bytes .entry)) (now (bytes .exit)) ⌝ }
+    ensures { λ r. ⌜ Steps request (stateOf store) (stateOf given) (now (cells .entry)) (now (bytes .entry)) r (now (cells .exit)) (now (bytes .exit)) ⌝ }
 {
     match request {
         Request::Open => done(given.open(cells)),
@@ -87,7 +100,7 @@ pub fn step(
             third,
         } => made(store.choose(cells, first, second, third)),
         Request::Fix { rule, flag, value } => made(store.fix(cells, rule, flag, value)),
-        Request::Tabulate(rule) => done(store.tabulate(cells, rule, bytes)),
+        Request::Tabulate { rule, length } => done(tabulated(store, cells, rule, length, bytes)),
         Request::Walk { rule, row } => said(store.walk(cells, rule, row)),
     }
 }

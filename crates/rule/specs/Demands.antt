@@ -19,7 +19,7 @@ use Rattle.rule.specs.Results.{Making, madeIn, needed}
 use Rattle.rule.specs.Reply.{Reply, accepted, numberOf, Accepted}
 use Rattle.rule.specs.Calls.{State, Build, Check, Tabulates, Tabulate, Walk, Make, Pack}
 use Rattle.rule.specs.Files.{bytesOf, reading, laidIn, labelOf, Reads, recordsIn, Writes}
-use Rattle.rule.specs.History.{Call, Calls, Opens, BeginsOpen, Book, inBook, enter, bookOf}
+use Rattle.rule.specs.History.{Call, Calls, Fed, feed, Opens, BeginsOpen, Book, inBook, enter, bookOf}
 
 -- n flags in a fit order, and a fit table of theirs
 pub record Fit (n : ℕ) (order t : List ℕ) : Type 0 where
@@ -129,14 +129,14 @@ pub record RuleKept (s : State) (c : List ℕ) (m : ℕ) (t : List ℕ) : Type 0
   pub answers : AnswersAs s c m t
   pub brought-out : BroughtOut s c m t
 
--- "a table written over an older one equals it": so at call x, unless it is an accepted open, which wipes the book
-abbrev pub Agrees : Book → Call → Type 0
-Agrees b x = (m : ℕ) (t u : List ℕ) → inBook b m ≡ some t → inBook (enter b x) m ≡ some u → (Opens x → ⊥) → t ≡ u
+-- "a table written over an older one equals it": so at call e, unless it is an accepted open, which wipes the book
+abbrev pub Agrees : Book → Fed → Type 0
+Agrees b e = (m : ℕ) (t u : List ℕ) → inBook b m ≡ some t → inBook (enter b e) m ≡ some u → (Opens e → ⊥) → t ≡ u
 
 -- so at every call of a list, as the book is fed one after the other
-abbrev pub AgreesThroughout : Book → List Call → Type 0
+abbrev pub AgreesThroughout : Book → List Fed → Type 0
 AgreesThroughout b [] = Unit {0}
-AgreesThroughout b (x ∷ xs) = Agrees b x × AgreesThroughout (enter b x) xs
+AgreesThroughout b (e ∷ es) = Agrees b e × AgreesThroughout (enter b e) es
 
 -- "The set asked before a flag is the flags standing before it in the order": the same set for two orders
 abbrev pub SameBefore : ℕ → ℕ → List ℕ → List ℕ → Type 0
@@ -148,15 +148,16 @@ EquallyMany n t =
     (o p : List ℕ) → Fit n o t → Fit n p t → (v : ℕ) → v < n → SameBefore n v o p
     → (c d : List ℕ) (used top more root : ℕ) → DrawnAs n o t c used top → DrawnAs n p t d more root → asking c used v ≡ asking d more v
 
--- what is claimed of a list of calls xs that has led to state s and cells c, where b is the book before it
-pub record AfterList (s : State) (c : List ℕ) (b : Book) (xs : List Call) : Type 0 where
-  pub kept : (m : ℕ) (t : List ℕ) → inBook (bookOf b xs) m ≡ some t → RuleKept s c m t
-  pub rewritten : AgreesThroughout b xs
+-- what is claimed of a list of calls that has led to state s and cells c, where b is the book before it and es is what it is fed
+pub record AfterList (s : State) (c : List ℕ) (b : Book) (es : List Fed) : Type 0 where
+  pub kept : (m : ℕ) (t : List ℕ) → inBook (bookOf b es) m ≡ some t → RuleKept s c m t
+  pub rewritten : AgreesThroughout b es
   pub equally : (n : ℕ) (t : List ℕ) → EquallyMany n t
 
 -- Demand 3: one claim about any list of calls that begins with an accepted open, from any state, any cells and any book
 abbrev pub Demand3 : Type 0
-Demand3 = (first s : State) (cells c : List ℕ) (b : Book) (xs : List Call) → Calls first cells xs s c → BeginsOpen xs → AfterList s c b xs
+Demand3 =
+    (first s : State) (cells c : List ℕ) (b : Book) (xs : List Call) → Calls first cells xs s c → BeginsOpen (feed xs) → AfterList s c b (feed xs)
 
 -- ---- rule files
 

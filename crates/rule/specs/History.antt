@@ -1,9 +1,9 @@
 -- Lists of store calls and the plain book beside them (document 01, "The book beside the store"). "Store calls that are added later join the list": one that
--- makes a rule is one more case of `Making` (Results.antt), any other of `Arguments`.
+-- makes a rule is one more case of `Making` (Results.antt), any other of `Asked`.
 -- Assumes nothing.
 use mathlib.Core.Path.{_≡_}
 use mathlib.Core.Bool.{Bool, true, false, cond}
-use mathlib.Core.List.{List, [], _∷_}
+use mathlib.Core.List.{List, [], _∷_, map}
 use mathlib.Core.Option.{Option, none, some, Option·getD}
 use Prim.Native.Nat.{ℕ}
 use lib.Dec.{eqb}
@@ -14,59 +14,69 @@ use Rattle.rule.specs.Calls.{State, Open, Constant, Make, Tabulate, Walk
 
 -- ---- the list of calls
 
--- a store call other than open, and its arguments; nodes are given by their numbers
-pub data Arguments : Type 0 where
-  constant-call : (v : ℕ) → Arguments
+-- a store call with its arguments; nodes are given by their numbers
+pub data Asked : Type 0 where
+  -- "an open may be given any state"; any other call is given it "as the last one left" it
+  open-call : (given : State) → Asked
+  constant-call : (v : ℕ) → Asked
   -- flag, join, choose, fix
-  making-call : (x : Making) → Arguments
-  tabulate-call : (m : ℕ) (bytes : List ℕ) → Arguments
-  walk-call : (m row : ℕ) → Arguments
+  making-call : (x : Making) → Asked
+  tabulate-call : (m : ℕ) → Asked
+  walk-call : (m row : ℕ) → Asked
 
--- what a call handed back and left: its answer, the state, the cells, and the bytes that tabulate is lent (no other call is lent any, and nothing is said of
--- them there)
-pub record Left : Type 0 where
+-- a call as it was made: what was asked and lent, the answer, and what it left. Of the lent bytes only a tabulate's are spoken of: no other call is lent any.
+pub record Call : Type 0 where
+  pub asked : Asked
+  pub lent : List ℕ
   pub answer : Reply
   pub state : State
   pub cells : List ℕ
   pub bytes : List ℕ
 
--- a store call and what it left
-pub data Call : Type 0 where
-  -- "an open may be given any state"
-  open-call : (given : State) (l : Left) → Call
-  -- any other is given the state "as the last one left" it
-  other-call : (a : Arguments) (l : Left) → Call
-
-abbrev pub left : Call → Left
-left (open-call given l) = l
-left (other-call a l) = l
-
--- what a call other than open left is as its contract says, where it was given state s and cells c
-abbrev pub MeetsBy : Arguments → State → List ℕ → Left → Type 0
-MeetsBy (constant-call v) s c l = Constant s c v (l .answer) (l .state) (l .cells)
-MeetsBy (making-call x) s c l = Make s c x (l .answer) (l .state) (l .cells)
-MeetsBy (tabulate-call m bytes) s c l = Tabulate s c m bytes (l .answer) (l .state) (l .bytes) × (l .cells ≡ c)
-MeetsBy (walk-call m row) s c l = Walk s c m row (l .answer) (l .state) × (l .cells ≡ c)
+-- what call x left is as the contract of what was asked says, where it was given state s (open its own) and cells c
+abbrev pub MeetsBy : Asked → State → List ℕ → Call → Type 0
+MeetsBy (open-call given) s c x = Open given c (x .answer) (x .state) (x .cells)
+MeetsBy (constant-call v) s c x = Constant s c v (x .answer) (x .state) (x .cells)
+MeetsBy (making-call y) s c x = Make s c y (x .answer) (x .state) (x .cells)
+MeetsBy (tabulate-call m) s c x = Tabulate s c m (x .lent) (x .answer) (x .state) (x .bytes) × (x .cells ≡ c)
+MeetsBy (walk-call m row) s c x = Walk s c m row (x .answer) (x .state) × (x .cells ≡ c)
 
 -- the call met its contract, where the last one left state s and cells c
 abbrev pub Meets : State → List ℕ → Call → Type 0
-Meets s c (open-call given l) = Open given c (l .answer) (l .state) (l .cells)
-Meets s c (other-call a l) = MeetsBy a s c l
+Meets s c x = MeetsBy (x .asked) s c x
 
 -- "Each call is given the cells and state as the last one left them .., and nobody else writes them": calls from state s and cells c to state s′ and cells d
 abbrev pub Calls : State → List ℕ → List Call → State → List ℕ → Type 0
 Calls s c [] s′ d = (s′ ≡ s) × (d ≡ c)
-Calls s c (x ∷ xs) s′ d = Meets s c x × Calls (left x .state) (left x .cells) xs s′ d
+Calls s c (x ∷ xs) s′ d = Meets s c x × Calls (x .state) (x .cells) xs s′ d
 
--- the call is an accepted open
-abbrev pub Opens : Call → Type 0
-Opens (open-call given l) = Accepted (l .answer)
-Opens (other-call a l) = ⊥
+-- what the plain book "is fed" of a call: "each store call's arguments and its answer"
+pub record Fed : Type 0 where
+  pub asked : Asked
+  pub answer : Reply
+
+abbrev pub fedOf : Call → Fed
+fedOf x = record { asked = x .asked; answer = x .answer }
+
+-- what each call of a list feeds it
+abbrev pub feed : List Call → List Fed
+feed = map fedOf
+
+abbrev pub OpensBy : Asked → Reply → Type 0
+OpensBy (open-call given) r = Accepted r
+OpensBy (constant-call v) r = ⊥
+OpensBy (making-call x) r = ⊥
+OpensBy (tabulate-call m) r = ⊥
+OpensBy (walk-call m row) r = ⊥
+
+-- it is of an accepted open
+abbrev pub Opens : Fed → Type 0
+Opens e = OpensBy (e .asked) (e .answer)
 
 -- "begins with an accepted open"
-abbrev pub BeginsOpen : List Call → Type 0
+abbrev pub BeginsOpen : List Fed → Type 0
 BeginsOpen [] = ⊥
-BeginsOpen (x ∷ xs) = Opens x
+BeginsOpen (e ∷ es) = Opens e
 
 -- ---- the plain book
 
@@ -95,13 +105,6 @@ ruleAt b m = Option·getD (inBook b m) []
 abbrev pub madeInBook : Book → Making → Option (List ℕ)
 madeInBook b x = cond (each (λ m. isThere (inBook b m)) (rulesAmong x)) (some (madeFrom (b .n) (ruleAt b) x)) none
 
--- the table that a call other than open writes where it is accepted; "Tabulate, walk .. write nothing."
-abbrev pub tableWritten : Book → Arguments → Option (List ℕ)
-tableWritten b (constant-call v) = some (constantTable (b .n) v)
-tableWritten b (making-call x) = madeInBook b x
-tableWritten b (tabulate-call m bytes) = none
-tableWritten b (walk-call m row) = none
-
 -- "writes a table at the node number handed back, over an older one"
 abbrev pub writeAt : ℕ → Option (List ℕ) → Book → Book
 writeAt m none b = b
@@ -118,12 +121,20 @@ abbrev pub opened : Reply → ℕ → Book → Book
 opened (accepted values) n b = record { n = n; rules = (0, constantTable n 0) ∷ (1, constantTable n 1) ∷ [] }
 opened (refused k values) n b = b
 
+-- what an accepted call writes: "An accepted constant, flag, join, choose or fix writes a table at the node number handed back"; "Tabulate, walk .. write
+-- nothing."
+abbrev pub enterBy : Book → Asked → Reply → Book
+enterBy b (open-call given) r = opened r (given .n) b
+enterBy b (constant-call v) r = writeMade r (some (constantTable (b .n) v)) b
+enterBy b (making-call x) r = writeMade r (madeInBook b x) b
+enterBy b (tabulate-call m) r = b
+enterBy b (walk-call m row) r = b
+
 -- the book "is fed each store call's arguments and its answer"
-abbrev pub enter : Book → Call → Book
-enter b (open-call given l) = opened (l .answer) (given .n) b
-enter b (other-call a l) = writeMade (l .answer) (tableWritten b a) b
+abbrev pub enter : Book → Fed → Book
+enter b e = enterBy b (e .asked) (e .answer)
 
 -- the book fed a list of calls
-abbrev pub bookOf : Book → List Call → Book
+abbrev pub bookOf : Book → List Fed → Book
 bookOf b [] = b
-bookOf b (x ∷ xs) = bookOf (enter b x) xs
+bookOf b (e ∷ es) = bookOf (enter b e) es

@@ -1,4 +1,5 @@
 // The end of a list: the rules handed back, and what all used records stand for.
+use crate::session::CALLS;
 use crate::session::NONE;
 use crate::session::Session;
 use rule::Done;
@@ -120,7 +121,7 @@ fn node_line(s: Session, cells: &[u16], call: usize) {
 // Each node handed back, once.
 fn node_lines(s: Session, cells: &[u16]) {
     let mut call = 0;
-    while call < 40 {
+    while call < CALLS {
         node_line(s, cells, call);
         call += 1;
     }

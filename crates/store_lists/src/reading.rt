@@ -1,6 +1,7 @@
 // The lines of standard input, and the words of a line.
+use crate::calling::call;
 use crate::ending::end;
-use crate::playing::call;
+use crate::session::CALLS;
 use crate::session::NONE;
 use crate::session::Session;
 use libc::STDIN_FILENO;
@@ -56,8 +57,8 @@ fn fresh(lent: usize) -> Session {
         lent,
         is_open: false,
         count: 0,
-        nodes: [NONE; 40],
-        inner: [false; 40],
+        nodes: [NONE; CALLS],
+        inner: [false; CALLS],
     }
 }
 

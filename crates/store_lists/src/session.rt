@@ -2,6 +2,9 @@ use store::Store;
 use words::print;
 ghost use Prim.Native.Nat.{_≤_};
 
+// The calls of a list at most.
+pub const CALLS: usize = 40;
+
 // Stands for the node of a call that handed none back.
 pub const NONE: u16 = 65535;
 
@@ -16,17 +19,17 @@ pub struct Session {
     // The calls so far.
     pub count: usize,
     // The node that each handed back, if no accepted open came after it.
-    pub nodes: [u16; 40],
+    pub nodes: [u16; CALLS],
     // Whether the call was the first to hand back a node that the store had only within other rules.
-    pub inner: [bool; 40],
+    pub inner: [bool; CALLS],
 }
 
 impl Session {
-    // One more call, of 40 at most: the state that it left, and the node that it handed back.
+    // One more call: the state that it left, and the node that it handed back.
     pub fn counted(mut self, store: Store, node: u16, inner: bool) -> Session {
         self.store = store;
         let at = self.count;
-        if at < 40 {
+        if at < CALLS {
             self.nodes[at] = node;
             self.inner[at] = inner;
             self.count = at + 1;
@@ -38,19 +41,23 @@ impl Session {
 
     // The node that a call handed back.
     pub fn node(self, call: usize) -> u16 {
-        if call < 40 { self.nodes[call] } else { NONE }
+        if call < CALLS { self.nodes[call] } else { NONE }
     }
 
     pub fn is_inner(self, call: usize) -> bool {
-        if call < 40 { self.inner[call] } else { false }
+        if call < CALLS {
+            self.inner[call]
+        } else {
+            false
+        }
     }
 
-    // The first call that handed back a node, 40 where none did.
+    // The first call that handed back a node, `CALLS` where none did.
     pub fn first(self, node: u16) -> usize
         ensures { λ r. ⌜ r ≤ 40 ⌝ }
     {
         let mut j = 0;
-        while j < 40 {
+        while j < CALLS {
             if self.nodes[j] == node {
                 return j;
             }

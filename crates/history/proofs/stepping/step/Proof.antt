@@ -6,28 +6,28 @@ use Rattle.history.proofs.stepping.step.Statement.{statement}
 use Rattle.history.proofs.stepping.step.Tie as tie
 
 returns : tie.Need-returns
-returns c = rw (c .before .before .before .before .before .enum-told .given .1, c .done .ensures .1, c .done .ensures .0) (c .before .before .before .open .ensures, refl)
+returns c = rw (c .before .before .before .before .before .enum-told .given .1, c .done .ensures .1, c .done .ensures .0) (record { met = c .before .before .before .open .ensures; kind = refl; behind = refl })
 
 returns-2 : tie.Need-returns-2
-returns-2 c = rw (c .before .before .before .before .before .before .request .given .1, c .made .ensures .1, c .made .ensures .0) (c .before .before .before .constant .ensures, refl)
+returns-2 c = rw (c .before .before .before .before .before .before .request .given .1, c .made .ensures .1, c .made .ensures .0) (record { met = c .before .before .before .constant .ensures; kind = refl; behind = refl })
 
 returns-3 : tie.Need-returns-3
-returns-3 c = rw (c .before .before .before .before .before .before .request2 .given .1, c .made2 .ensures .1, c .made2 .ensures .0) (c .before .before .before .flag .ensures, refl)
+returns-3 c = rw (c .before .before .before .before .before .before .request2 .given .1, c .made2 .ensures .1, c .made2 .ensures .0) (record { met = c .before .before .before .flag .ensures; kind = refl; behind = refl })
 
 returns-4 : tie.Need-returns-4
-returns-4 c = rw (c .before .before .before .before .before .before .request3 .given .1, c .made3 .ensures .1, c .made3 .ensures .0) (c .before .before .before .join .ensures, refl)
+returns-4 c = rw (c .before .before .before .before .before .before .request3 .given .1, c .made3 .ensures .1, c .made3 .ensures .0) (record { met = c .before .before .before .join .ensures; kind = refl; behind = refl })
 
 returns-5 : tie.Need-returns-5
-returns-5 c = rw (c .before .before .before .before .before .before .request4 .given .1, c .made4 .ensures .1, c .made4 .ensures .0) (c .before .before .before .choose .ensures, refl)
+returns-5 c = rw (c .before .before .before .before .before .before .request4 .given .1, c .made4 .ensures .1, c .made4 .ensures .0) (record { met = c .before .before .before .choose .ensures; kind = refl; behind = refl })
 
 returns-6 : tie.Need-returns-6
-returns-6 c = rw (c .before .before .before .before .before .before .request5 .given .1, c .made5 .ensures .1, c .made5 .ensures .0) (c .before .before .before .fix .ensures, refl)
+returns-6 c = rw (c .before .before .before .before .before .before .request5 .given .1, c .made5 .ensures .1, c .made5 .ensures .0) (record { met = c .before .before .before .fix .ensures; kind = refl; behind = refl })
 
 returns-7 : tie.Need-returns-7
-returns-7 c = rw (c .before .before .before .before .before .before .before .request6 .given .1, c .done2 .ensures .1, c .done2 .ensures .0) ((c .before .before .before .tabulate .ensures, refl), tt)
+returns-7 c = rw (c .before .before .before .before .before .before .before .request6 .given .1, c .done2 .ensures .1, c .done2 .ensures .0) (record { met = (c .before .before .before .tabulated .ensures .0, refl); kind = refl; behind = c .before .before .before .tabulated .ensures .1 })
 
 returns-8 : tie.Need-returns-8
-returns-8 c = rw (c .before .before .before .before .request7 .given .1, c .said .ensures .1, c .said .ensures .0) ((c .before .walk .ensures, refl), refl)
+returns-8 c = rw (c .before .before .before .before .request7 .given .1, c .said .ensures .1, c .said .ensures .0) (record { met = (c .before .walk .ensures, refl); kind = refl; behind = refl })
 
 pub step-spec : {M : Type 1} → statement M
 step-spec =

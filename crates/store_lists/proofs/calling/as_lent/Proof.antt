@@ -1,9 +1,9 @@
--- `store_lists::playing::as_lent` meets its contract: it counts up to the length.
+-- `store_lists::calling::as_lent` meets its contract: it counts up to the length.
 -- Assumes nothing.
 use Prim.Native.Nat.{_-_, _≤_}
 use borrow.Author.Needs.{needs}
-use Rattle.store_lists.proofs.playing.as_lent.Statement.{statement}
-use Rattle.store_lists.proofs.playing.as_lent.Tie as tie
+use Rattle.store_lists.proofs.calling.as_lent.Statement.{statement}
+use Rattle.store_lists.proofs.calling.as_lent.Tie as tie
 
 abbrev Inv-loop : tie.InvT-loop
 Inv-loop bytes i₀ i = (i ≤ 1025)

@@ -1,9 +1,9 @@
--- `history::playing::given_at` meets its contract: each part is the word at its place.
+-- `playing::coding::given_at` meets its contract: each part is the word at its place.
 -- Assumes nothing.
 use borrow.Author.Needs.{needs}
-use Rattle.history.specs.Played.{givenAt}
-use Rattle.history.proofs.playing.given_at.Statement.{statement}
-use Rattle.history.proofs.playing.given_at.Tie as tie
+use Rattle.playing.specs.Coded.{givenAt}
+use Rattle.playing.proofs.coding.given_at.Statement.{statement}
+use Rattle.playing.proofs.coding.given_at.Tie as tie
 
 returns : tie.Need-returns
 unfolding givenAt

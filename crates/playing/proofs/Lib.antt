@@ -1,0 +1,4 @@
+pub mod More
+pub mod Read
+pub mod Kept
+pub mod Example

@@ -1,0 +1,28 @@
+-- `playing::coding::request_at` meets its contract: the kind and the arguments are the words at their places.
+-- Assumes nothing.
+use borrow.Author.Needs.{needs}
+use Rattle.playing.specs.Coded.{requestAt}
+use Rattle.playing.proofs.coding.request_at.Statement.{statement}
+use Rattle.playing.proofs.coding.request_at.Tie as tie
+
+returns : tie.Need-returns
+unfolding requestAt
+returns c = c .request-by .ensures
+
+pub request-at-spec : {M : Type 1} → statement M
+request-at-spec =
+    tie.close
+    (tie.spec
+    (λ c. search needs)
+    (λ c. search needs)
+    (λ c. search needs)
+    (λ c. search needs)
+    (λ c. search needs)
+    (λ c. search needs)
+    (λ c. search needs)
+    (λ c. search needs)
+    (λ c. search needs)
+    (λ c. search needs)
+    (λ c. search needs)
+    (λ c κs. search needs)
+    returns)

@@ -1,0 +1,4 @@
+pub mod Coded
+pub mod Noted
+pub mod Played
+pub mod Kept
