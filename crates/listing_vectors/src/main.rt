@@ -4,7 +4,7 @@ use words::lines;
 
 // The listing of one line.
 fn list(line: &[u8]) {
-    let mut out = [0u8; lister::PRINTED];
+    let mut out = [0u8; report::PRINTED];
     let printed = lister::listing(line, &mut out);
     io::write_all(STDOUT_FILENO, &out[0..printed]);
 }

@@ -1,4 +1,4 @@
--- `lister::count::asking` meets its contract: the count is that of the records passed.
+-- `report::count::asking` meets its contract: the count is that of the records passed.
 -- Assumes nothing.
 use mathlib.Core.Path.{_≡_, sym, ap, _∙_}
 use mathlib.Core.Logic.{⊎-elim}
@@ -7,9 +7,9 @@ use native.Mathlib.Omega.{arith}
 use borrow.Author.Needs.{needs}
 use denote.Ref.{now}
 use Rattle.rule.specs.Diagram.{asking}
-use Rattle.lister.proofs.Counts.{asked-none, asked-more, asked-other}
-use Rattle.lister.proofs.count.asking.Statement.{statement}
-use Rattle.lister.proofs.count.asking.Tie as tie
+use Rattle.report.proofs.Counts.{asked-none, asked-more, asked-other}
+use Rattle.report.proofs.count.asking.Statement.{statement}
+use Rattle.report.proofs.count.asking.Tie as tie
 
 abbrev Inv-loop : tie.InvT-loop
 Inv-loop cells used v count₀ k₀ count k = (k ≤ used) × (count ≡ asking cells k v) × (count ≤ k)

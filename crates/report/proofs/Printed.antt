@@ -12,7 +12,6 @@ use Rattle.rule.specs.Text.{text, number, lineEnd}
 use Rattle.rule.specs.Listing.{numbers, orderLine, flagLine, flagLines}
 use Rattle.runs.specs.Run.{Puts}
 use Rattle.runs.proofs.Puts.{puts-length, puts-then}
-use Rattle.runs.proofs.Digits.{number-le}
 
 -- ---- the order
 
@@ -57,20 +56,14 @@ module _ (asked : ℕ → ℕ) where
   puts-flag k h p q = rw (lines-more k) (puts-then h p q)
 
 -- one line: the word, the flag, its nodes and the line end, one behind the other
-module _ (v k : ℕ) (hv : v < 65536) (hk : k < 65536) {b d e f g : List ℕ} {at m i j r : ℕ} (l : at + 17 ≤ length b)
-    (p : Puts b at (text "flag") m d) (q : Puts d m (number v) i e) (s : Puts e i (number k) j f) (z : Puts f j lineEnd r g) where
-  pub flag-le : r ≤ at + 17
-  unfolding text
-  flag-le = omega (arith, p .next-is, q .next-is, s .next-is, z .next-is, number-le v hv, number-le k hk)
-
-  pub puts-flag-line : Puts b at (flagLine v k) r g
-  unfolding text
-  puts-flag-line =
-      let a = number-le v hv in
-      let n = number-le k hk in
-      let long-d : length d ≡ length b = puts-length p (omega arith) in
-      let long-e : length e ≡ length d = puts-length q (omega (arith, p .next-is)) in
-      puts-then (omega (arith, flag-le)) p (puts-then (omega (arith, flag-le)) q (puts-then (omega (arith, flag-le)) s z))
+-- the word, the flag, its nodes and the line end
+pub puts-flag-line : (v k : ℕ) {b d e f g : List ℕ} {at m i j r : ℕ} → r ≤ length b → Puts b at (text "flag") m d → Puts d m (number v) i e
+    → Puts e i (number k) j f → Puts f j lineEnd r g → Puts b at (flagLine v k) r g
+unfolding text
+puts-flag-line v k {b} {d} {e} h p q s z =
+    let long-d : length d ≡ length b = puts-length p (omega (arith, p .next-is, q .next-is, s .next-is, z .next-is)) in
+    let long-e : length e ≡ length d = puts-length q (omega (arith, q .next-is, s .next-is, z .next-is)) in
+    puts-then h p (puts-then (omega arith) q (puts-then (omega arith) s z))
 
 -- the same lines where the counts are the same
 pub lines-same : (f g : ℕ → ℕ) (a k : ℕ) → ((v : ℕ) → v < a + k → f v ≡ g v) → flagLines f (from a k) ≡ flagLines g (from a k)

@@ -1,4 +1,4 @@
--- `lister::report::put_places` meets its contract: the places passed are written.
+-- `report::lines::put_places` meets its contract: the places passed are written.
 -- Assumes nothing.
 use mathlib.Core.Path.{_≡_, refl}
 use Prim.Native.Nat.{_+_, _*_, _-_, _≤_}
@@ -8,11 +8,10 @@ use lib.ListN.{length, take}
 use Rattle.rule.specs.Listing.{numbers}
 use Rattle.runs.specs.Run.{Puts}
 use Rattle.runs.proofs.Puts.{puts-none}
-use Rattle.runs.proofs.Digits.{number-le}
 use Rattle.arguments.proofs.Times.{ten}
-use Rattle.lister.proofs.Printed.{puts-place}
-use Rattle.lister.proofs.report.put_places.Statement.{statement}
-use Rattle.lister.proofs.report.put_places.Tie as tie
+use Rattle.report.proofs.Printed.{puts-place}
+use Rattle.report.proofs.lines.put_places.Statement.{statement}
+use Rattle.report.proofs.lines.put_places.Tie as tie
 
 abbrev Inv-loop : tie.InvT-loop
 Inv-loop out₀ at n places next₀ i₀ out next i =
@@ -29,22 +28,20 @@ loop-holds c =
 
 put-number-requires : tie.Need-put-number-requires Inv-loop μ-loop
 put-number-requires c κs =
-    let at = c .before .before .before in
+    let at = c .before .before in
     let start = at .before .before .before in
     omega (arith, at .loop .inv .1, at .loop .inv .3, start .pre .1)
 
 loop-again : tie.Need-loop-again Inv-loop μ-loop
 loop-again c =
     let put = c .before .before in
-    let read = put .before in
-    let at = read .before .before .before in
+    let at = put .before .before .before in
     let start = at .before .before .before in
-    let x = read .wide .result in
+    let places = start .args .order .places in
     let le : put .put-number .result ≤ start .args .at + (at .loop .i + 1) * 6 =
-    omega (arith, put .put-number .ensures .next-is, number-le x (omega arith), at .loop .inv .3) in
-    let placed = rw (read .wide .ensures) at (put .put-number .ensures) in
+    omega (arith, put .put-number .ensures .1, at .loop .inv .3) in
     let more =
-    puts-place (start .args .order .places) (at .loop .i) (omega (arith, at .loop .inv .4)) (omega (arith, start .pre .1)) (at .loop .inv .2) placed in
+    puts-place places (at .loop .i) (omega (arith, at .loop .inv .4)) (omega (arith, start .pre .1)) (at .loop .inv .2) (put .put-number .ensures .0) in
     (omega arith, search needs, more, le, at .loop .inv .4)
 
 returns : tie.Need-returns Inv-loop μ-loop
@@ -63,7 +60,7 @@ put-places-spec =
     loop-holds
     (λ c. search needs)
     (λ c. search needs)
-    (λ c κs. search needs)
+    (λ c. search needs)
     put-number-requires
     (λ c. search needs)
     (λ c. search needs)

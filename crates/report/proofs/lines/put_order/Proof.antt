@@ -1,12 +1,12 @@
--- `lister::report::put_order` meets its contract: the word, the places and the line end, one behind the other.
+-- `report::lines::put_order` meets its contract: the word, the places and the line end, one behind the other.
 -- Assumes nothing.
 use Prim.Native.Nat.{_+_, _*_, _≤_}
 use native.Mathlib.Omega.{arith}
 use borrow.Author.Needs.{needs}
 use Rattle.rule.specs.Text.{text}
-use Rattle.lister.proofs.Printed.{puts-order}
-use Rattle.lister.proofs.report.put_order.Statement.{statement}
-use Rattle.lister.proofs.report.put_order.Tie as tie
+use Rattle.report.proofs.Printed.{puts-order}
+use Rattle.report.proofs.lines.put_order.Statement.{statement}
+use Rattle.report.proofs.lines.put_order.Tie as tie
 
 returns : tie.Need-returns
 unfolding text

@@ -1,4 +1,4 @@
--- `lister::report::put_flags` meets its contract: the lines of the flags passed are written.
+-- `report::lines::put_flags` meets its contract: the lines of the flags passed are written.
 -- Assumes nothing.
 use mathlib.Core.Path.{_≡_, refl}
 use Prim.Native.Nat.{_+_, _*_, _-_, _≤_}
@@ -11,9 +11,9 @@ use Rattle.rule.specs.Diagram.{asking}
 use Rattle.rule.specs.Listing.{flagLines}
 use Rattle.runs.specs.Run.{Puts}
 use Rattle.runs.proofs.Puts.{puts-none}
-use Rattle.lister.proofs.Printed.{puts-flag}
-use Rattle.lister.proofs.report.put_flags.Statement.{statement}
-use Rattle.lister.proofs.report.put_flags.Tie as tie
+use Rattle.report.proofs.Printed.{puts-flag}
+use Rattle.report.proofs.lines.put_flags.Statement.{statement}
+use Rattle.report.proofs.lines.put_flags.Tie as tie
 
 abbrev Inv-loop : tie.InvT-loop
 Inv-loop out₀ at n cells used next₀ v₀ out next v =
@@ -28,7 +28,7 @@ loop-holds c = (omega arith, refl, puts-none _ _, omega arith)
 
 put-flag-requires : tie.Need-put-flag-requires Inv-loop μ-loop
 put-flag-requires c κs =
-    let at = c .before .before .before .before in
+    let at = c .before .before .before in
     let start = at .before .before .before in
     omega (arith, at .loop .inv .1, at .loop .inv .3, start .pre .1)
 
@@ -36,11 +36,10 @@ loop-again : tie.Need-loop-again Inv-loop μ-loop
 loop-again c =
     let put = c .before .before in
     let asked = put .before in
-    let flag = asked .before .before in
-    let at = flag .before .before in
+    let at = asked .before .before .before in
     let start = at .before .before .before in
     let le : put .put-flag .result ≤ start .args .at + (at .loop .v + 1) * 17 = omega (arith, put .put-flag .ensures .1, at .loop .inv .3) in
-    let line = rw (asked .asking .ensures, flag .wide .ensures) at (put .put-flag .ensures .0) in
+    let line = rw (asked .asking .ensures) at (put .put-flag .ensures .0) in
     let more =
     puts-flag (asking (now (start .args .cells)) (start .args .used)) (at .loop .v) (omega (arith, start .pre .1)) (at .loop .inv .2) line in
     (omega arith, search needs, more, le)
@@ -58,7 +57,7 @@ put-flags-spec =
     Inv-loop
     μ-loop
     loop-holds
-    (λ c κs. search needs)
+    (λ c. search needs)
     (λ c κs. search needs)
     put-flag-requires
     (λ c. search needs)

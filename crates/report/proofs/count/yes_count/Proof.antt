@@ -1,4 +1,4 @@
--- `lister::count::yes_count` meets its contract: the count is that of the rows passed.
+-- `report::count::yes_count` meets its contract: the count is that of the rows passed.
 -- Assumes nothing.
 use mathlib.Core.Path.{_≡_, refl, sym, ap, _∙_}
 use mathlib.Core.Logic.{⊎-elim}
@@ -11,8 +11,8 @@ use lib.Seq.{take-all}
 use Rattle.rule.specs.Tests.{keep}
 use Rattle.rule.specs.Order.{times}
 use Rattle.arguments.proofs.Times.{times-hit, times-miss}
-use Rattle.lister.proofs.count.yes_count.Statement.{statement}
-use Rattle.lister.proofs.count.yes_count.Tie as tie
+use Rattle.report.proofs.count.yes_count.Statement.{statement}
+use Rattle.report.proofs.count.yes_count.Tie as tie
 
 abbrev Inv-loop : tie.InvT-loop
 Inv-loop table count₀ r₀ count r = (r ≤ length table) × (count ≡ times 1 (take r table)) × (count ≤ r)

@@ -5,7 +5,6 @@ use runs::put_byte;
 use runs::put_line;
 use runs::put_number;
 use runs::put_run;
-ghost use mathlib.Core.Path.{_≡_};
 ghost use Prim.Native.Nat.{_+_, _*_, _≤_, _<_};
 ghost use lib.ListN.{length};
 ghost use Rattle.rule.specs.Bits.{below};
@@ -14,14 +13,19 @@ ghost use Rattle.rule.specs.Cells.{room};
 ghost use Rattle.rule.specs.Diagram.{asking};
 ghost use Rattle.rule.specs.Listing.{numbers, orderLine, flagLine, flagLines};
 ghost use Rattle.runs.specs.Run.{Puts};
-ghost use Rattle.lister.specs.Report.{reported};
+ghost use Rattle.report.specs.Report.{mostPrinted, reported};
 
-// A byte as a number.
-fn wide(byte: u8) -> u16
-    ensures { λ r. ⌜ r ≡ byte ⌝ }
-{
-    byte as u16
-}
+// The most flags that are listed: for more, pack is lent too short a workspace.
+const MOST_FLAGS: usize = 8;
+
+// The most bytes of a blank and a number of 16 bits.
+const NUMBER: usize = 6;
+
+// The bytes that a listing takes at most: the lines `flags`, `nodes`, `order`, a `flag` line for each flag, and `yes`.
+pub const PRINTED: usize = (5 + NUMBER + 1) * 2
+    + (5 + MOST_FLAGS * NUMBER + 1)
+    + MOST_FLAGS * (4 + NUMBER * 2 + 1)
+    + (3 + NUMBER + 1);
 
 // Writes the flags of an order, each behind a blank.
 fn put_places(out: &mut [u8], at: usize, n: u8, order: Order) -> usize
@@ -32,7 +36,7 @@ fn put_places(out: &mut [u8], at: usize, n: u8, order: Order) -> usize
     let mut next = at;
     let mut i: u8 = 0;
     while i < n {
-        next = put_number(out, next, wide(places[i as usize]));
+        next = put_number(out, next, places[i as usize] as u16);
         i += 1;
     }
     next
@@ -67,7 +71,7 @@ fn put_flags(out: &mut [u8], at: usize, n: u8, cells: &[u16], used: u16) -> usiz
     let mut next = at;
     let mut v: u8 = 0;
     while v < n {
-        let flag = wide(v);
+        let flag = v as u16;
         next = put_flag(out, next, flag, asking(cells, used, flag));
         v += 1;
     }
@@ -83,10 +87,10 @@ pub fn put_report(
     cells: &[u16],
     used: u16,
 ) -> usize
-    requires { ⌜ (n ≤ 8) × (length (now table) < 65536) × (used ≤ room (now cells)) × (224 ≤ length (now out)) ⌝ }
+    requires { ⌜ (n ≤ 8) × (length (now table) < 65536) × (used ≤ room (now cells)) × (mostPrinted ≤ length (now out)) ⌝ }
     ensures { λ r. ⌜ Puts (now (out .entry)) 0 (reported n (now (table .entry)) (order .places) (now (cells .entry)) used) r (now (out .exit)) ⌝ }
 {
-    let flags = put_line(out, 0, b"flags", wide(n));
+    let flags = put_line(out, 0, b"flags", n as u16);
     let nodes = put_line(out, flags, b"nodes", used);
     let ordered = put_order(out, nodes, n, order);
     let asked = put_flags(out, ordered, n, cells, used);
