@@ -6,11 +6,10 @@ use crate::changing::set;
 use crate::changing::values;
 use crate::loading::load;
 use crate::saving::save;
-use libc::STDIN_FILENO;
+use words::lines;
 use words::print;
 use words::read::byte;
 use words::read::bytes;
-use words::read::line_end;
 use words::read::number;
 
 // The longest file that a line may have: with 1,024 records it has 5,390 bytes.
@@ -75,25 +74,20 @@ fn line(text: &[u8], file: &mut [u8], size: usize) -> usize {
     }
 }
 
-fn lines(text: &[u8], file: &mut [u8]) {
+fn each_line(buffer: &mut [u8], file: &mut [u8]) {
     let mut size = 0;
-    let mut at = 0;
-    while at < text.len() {
-        let end = line_end(text, at);
-        size = line(&text[at..end], file, size);
-        at = end + 1;
+    let mut found = lines::first(buffer);
+    while 0 < found.left {
+        let start = found.start;
+        let end = found.end;
+        size = line(&buffer[start..end], file, size);
+        found = lines::next(buffer, found);
     }
 }
 
-// Every line of standard input, or that there is more of it than can be read.
+// Every line of standard input.
 pub fn run() {
     let mut buffer = io::large_buffer();
-    let n = io::read_full(STDIN_FILENO, &mut buffer);
-    if buffer.len() <= n {
-        print::too_long();
-        print::line_end();
-        return;
-    }
     let mut file = [0u8; LONGEST];
-    lines(&buffer[..n], &mut file);
+    each_line(&mut buffer, &mut file);
 }

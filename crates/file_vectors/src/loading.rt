@@ -12,11 +12,6 @@ pub const MOST: usize = 3075;
 // What they are lent with.
 const JUNK: u16 = 7;
 
-// A byte as a number to print.
-fn wide(byte: u8) -> u16 {
-    byte as u16
-}
-
 // Whether a refused file gave zeros for an order and an empty label, and left the cells as they were lent.
 fn is_kept(order: Order, label: &[u8], cells: &[u16]) -> bool {
     let places = order.places;
@@ -65,7 +60,7 @@ fn records(count: u16, cells: &[u16]) {
 
 fn accepted(n: u8, order: Order, count: u16, root: Node, label: &[u8], cells: &[u16]) {
     let places = order.places;
-    print::number(b"n", wide(n));
+    print::number(b"n", n as u16);
     print::text(b" order ");
     print::rows(&places);
     print::number(b" records", count);

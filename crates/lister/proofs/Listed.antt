@@ -21,17 +21,18 @@ use Rattle.rule.specs.Reply.{accepted, refused}
 use Rattle.rule.specs.Results.{rootBy}
 use Rattle.rule.specs.Calls.{Draws, Pack}
 use Rattle.rule.specs.Demands.{Fit}
-use Rattle.rule.specs.Listing.{isDigit, flagsOf, rowsOf, lineRows, shortWorkspace, listingRows, wordLine, askingPacked, listed, listedOr}
+use Rattle.rule.specs.Listing.{isDigit, flagsOf, rowsOf, lineRows, workspaceCells, shortWorkspace, listingRows, wordLine, askingPacked, listed, listedOr}
 use Rattle.theory.proofs.Refused.{row-passed, refused-more, passed-more, refused-is, accepted-is}
 use Rattle.theory.proofs.Orders.{packed-fit, packed-flags}
+use Rattle.parsing.specs.Final.{mostRows}
 use Rattle.demands.proofs.Exists.{size-few}
 use Rattle.demands.proofs.Counts.{asks}
 use Rattle.demands.proofs.Stands.{packs}
-use Rattle.lister.specs.Report.{reported}
-use Rattle.lister.proofs.Printed.{lines-same}
+use Rattle.report.specs.Report.{reported}
+use Rattle.report.proofs.Printed.{lines-same}
 
 -- a refusal's line
-pub refused-listed : (k n : ℕ) (t : List ℕ) → (k ≡ 0 → ⊥) → wordLine "refused" k ≡ listedOr k n t
+refused-listed : (k n : ℕ) (t : List ℕ) → (k ≡ 0 → ⊥) → wordLine "refused" k ≡ listedOr k n t
 refused-listed zero n t d = absurd (d refl)
 refused-listed (suc k) n t d = refl
 
@@ -47,12 +48,12 @@ module _ (line : List ℕ) {k : ℕ} (e : k ≡ refusal (lineRows line)) where
     line-passed : refusal (shortWorkspace (flagsOf line) ∷ []) ≡ refusal (listingRows line)
     line-passed = passed-more (lineRows line) (shortWorkspace (flagsOf line) ∷ []) refl (sym e ∙ z)
 
-    pub line-fits : (length line ≤ 1024) × (flagsOf line ≤ 10) × (each isDigit line ≡ true)
+    pub line-fits : (length line ≤ mostRows) × (flagsOf line ≤ 10) × (each isDigit line ≡ true)
     line-fits =
-        let (a, p) = row-passed (ltb 1024 (length line)) 0 ((ltb 10 (flagsOf line), 2) ∷ (not (each isDigit line), 3) ∷ []) (sym e ∙ z) in
+        let (a, p) = row-passed (ltb mostRows (length line)) 0 ((ltb 10 (flagsOf line), 2) ∷ (not (each isDigit line), 3) ∷ []) (sym e ∙ z) in
         let (b, q) = row-passed (ltb 10 (flagsOf line)) 1 ((not (each isDigit line), 3) ∷ []) p in
         let (c, _) = row-passed (not (each isDigit line)) 2 [] q in
-        (ltb-false 1024 (length line) a, ltb-false 10 (flagsOf line) b, not-false _ c)
+        (ltb-false mostRows (length line) a, ltb-false 10 (flagsOf line) b, not-false _ c)
 
     -- what is listed of the rows that it stands for
     pub line-listed : {n : ℕ} {t : List ℕ} → n ≡ flagsOf line → t ≡ rowsOf line
@@ -64,7 +65,7 @@ module _ (line : List ℕ) {k : ℕ} (e : k ≡ refusal (lineRows line)) where
 pub rows-few : (n : ℕ) (t : List ℕ) → n ≤ 10 → length t ≡ 2 ^ n → length t < 65536
 rows-few n t few e = let m : 2 ^ n ≤ 2 ^ 10 = pow-mono few in omega arith
 
-module _ (n : ℕ) (t c w : List ℕ) (few : n ≤ 10) (rows : length t ≡ 2 ^ n) (bits : fitRows t ≡ true) (cs : length c ≡ 3072) (ws : length w ≡ 6561) where
+module _ (n : ℕ) (t c w : List ℕ) (few : n ≤ 10) (rows : length t ≡ 2 ^ n) (bits : fitRows t ≡ true) (cs : length c ≡ 3072) (ws : length w ≡ workspaceCells) where
   fit : Fit n (inPlaces (packed n t)) t
   unfolding fitLength
   fit =
@@ -106,10 +107,10 @@ module _ (n : ℕ) (t c w : List ℕ) (few : n ≤ 10) (rows : length t ≡ 2 ^ 
 
     pub packed-few : n ≤ 8
     packed-few =
-        let h = ltb-false 6561 (3 ^ n) (row-passed (ltb 6561 (3 ^ n)) 7 [] none .0) in
+        let h = ltb-false workspaceCells (3 ^ n) (row-passed (ltb workspaceCells (3 ^ n)) 7 [] none .0) in
         elim (ℕ-discrete n 9) [
-          | yes e ↦ let m : 3 ^ 9 ≤ 6561 = rw e at h in absurd (omega arith)
-          | no d ↦ elim (ℕ-discrete n 10) [ yes e ↦ let m : 3 ^ 10 ≤ 6561 = rw e at h in absurd (omega arith) | no f ↦ omega arith ]
+          | yes e ↦ let m : 3 ^ 9 ≤ workspaceCells = rw e at h in absurd (omega arith)
+          | no d ↦ elim (ℕ-discrete n 10) [ yes e ↦ let m : 3 ^ 10 ≤ workspaceCells = rw e at h in absurd (omega arith) | no f ↦ omega arith ]
         ]
 
     pub packed-room : nodes ≤ room d

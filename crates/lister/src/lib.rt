@@ -1,7 +1,4 @@
 // The listing (document 01, "The listing program"): from the bytes found on standard input to the bytes that are printed.
-mod count;
-mod report;
 mod whole;
 
-pub use whole::PRINTED;
 pub use whole::listing;

@@ -16,9 +16,10 @@ use Rattle.rule.specs.Table.{fitRows}
 use Rattle.rule.specs.Listing.{isDigit, rowsOf}
 use Rattle.theory.proofs.Tests.{and-split, and-join, each-in}
 use Rattle.theory.proofs.Scan.{at-in}
+use Rattle.parsing.specs.Final.{mostRows}
 
 -- a digit is the byte 30 or 31, hexadecimal
-pub digit-range : (b : ℕ) → isDigit b ≡ true → (48 ≤ b) × (b ≤ 49)
+digit-range : (b : ℕ) → isDigit b ≡ true → (48 ≤ b) × (b ≤ 49)
 digit-range b e = go (eqb b 48) refl (eqb b 49) refl e
   where
     go : (p : Bool) → eqb b 48 ≡ p → (q : Bool) → eqb b 49 ≡ q → (p || q) ≡ true → (48 ≤ b) × (b ≤ 49)
@@ -60,19 +61,19 @@ pub read-all : (line rows : List ℕ) (i : ℕ) → length line ≤ i → Read l
 read-all line rows i h (_, l, f) =
     ext-getD 0 rows (rowsOf line) (l ∙ sym (rows-length line)) (λ k j. f k (omega arith) ∙ sym (List·getD-map (λ b. b - 48) line k 0))
 
--- ---- in the first of 1,024 bytes
+-- ---- in the first of as many bytes as a table has at most
 
-module _ (line : List ℕ) (h : length line ≤ 1024) where
-  pub held-front : length (take (length line - 0) (replicate {A = ℕ} 1024 0)) ≡ length line
-  held-front = rw sub-zero (length-take-le (length line) (replicate 1024 0) (omega (arith, length-replicate {A = ℕ} 1024 0)))
+module _ (line : List ℕ) (h : length line ≤ mostRows) where
+  pub held-front : length (take (length line - 0) (replicate {A = ℕ} mostRows 0)) ≡ length line
+  held-front = rw sub-zero (length-take-le (length line) (replicate mostRows 0) (omega (arith, length-replicate {A = ℕ} mostRows 0)))
 
   abbrev rest : List ℕ
-  rest = drop (length line - 0) (replicate 1024 0)
+  rest = drop (length line - 0) (replicate mostRows 0)
 
   pub read-front : {d : List ℕ} → d ≡ rowsOf line → take (length line - 0) (d ++ rest) ≡ rowsOf line
   read-front e = rw (e, sub-zero) (take-at (rowsOf line) _ (length line) (rows-length line))
 
-  pub read-room : {d : List ℕ} → d ≡ rowsOf line → length (d ++ rest) ≡ 1024
+  pub read-room : {d : List ℕ} → d ≡ rowsOf line → length (d ++ rest) ≡ mostRows
   read-room {d} e =
       length-append d rest
-      ∙ omega (arith, ap length e, rows-length line, length-drop (length line - 0) (replicate {A = ℕ} 1024 0), length-replicate {A = ℕ} 1024 0)
+      ∙ omega (arith, ap length e, rows-length line, length-drop (length line - 0) (replicate {A = ℕ} mostRows 0), length-replicate {A = ℕ} mostRows 0)

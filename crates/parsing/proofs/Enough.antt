@@ -1,26 +1,26 @@
--- How much of an input a listing needs: up to the first line end, or 1,025 bytes. What follows them changes nothing that is printed.
+-- How much of an input a listing needs: up to the first line end, or one byte more than a table's rows. What follows them changes nothing that is printed.
 -- Assumes nothing.
 use mathlib.Core.Path.{_≡_, refl, sym, ap, _∙_}
-use mathlib.Core.Bool.{Bool, true, false, _||_}
+use mathlib.Core.Bool.{Bool, true, false, _||_, true≢false}
 use mathlib.Core.Logic.{_⊎_, inl, inr}
 use mathlib.Core.List.{List, [], _∷_, _++_}
 use Prim.Native.Nat.{ℕ, zero, suc, _+_, _-_, _≤_, _<_}
-use native.Mathlib.Nat.{not-suc-le-zero, le-of-suc-le-suc}
+use native.Mathlib.Nat.{not-suc-le-zero, le-of-suc-le-suc, sub-zero}
 use native.Mathlib.Decide.{ℕ-discrete, decLt}
 use native.Mathlib.Omega.{arith}
-use borrow.Author.Tests.{lt-ltb, ltb-true, eqb-true}
+use borrow.Author.Tests.{lt-ltb, ltb-true, ltb-false, eqb-true}
 use lib.Dec.{eqb, ltb}
 use lib.ListN.{length, getD, take, length-append}
 use lib.Seq.{length-take-le, take-all, take-take, take-append-seam, getD-take}
 use Rattle.rule.specs.Refusals.{refusal}
 use Rattle.rule.specs.Text.{readLine}
 use Rattle.rule.specs.Listing.{flagsOf, rowsOf, listingRows, wordLine, listedOr, listing}
-use Rattle.parsing.specs.Final.{enough, Final}
+use Rattle.parsing.specs.Final.{mostRows, enough, Final}
 use Rattle.parsing.proofs.FirstLine.{Open, open-more, line-to, line-goes-on}
 
--- k bytes are all of the input, or 1,025 of it, or have a line end among them
+-- k bytes are all of the input, or more than a table's rows, or have a line end among them
 abbrev Suffices : List ℕ → ℕ → Type 0
-Suffices input k = (length input ≤ k) ⊎ ((1025 ≤ k) ⊎ ((i : ℕ) × (i < k) × (i < length input) × (getD input i 0 ≡ 10)))
+Suffices input k = (length input ≤ k) ⊎ ((mostRows < k) ⊎ ((i : ℕ) × (i < k) × (i < length input) × (getD input i 0 ≡ 10)))
 
 -- the first line end, or that there is none
 first-end : (l : List ℕ) (k : ℕ) → ((i : ℕ) × (i < k) × Open l i × (getD l i 0 ≡ 10)) ⊎ Open l k
@@ -48,9 +48,9 @@ same-line : (x y : List ℕ) → readLine x .0 ≡ readLine y .0 → listing x �
 unfolding listing
 same-line x y e = ap (λ (line : List ℕ). listedOr (refusal (listingRows line)) (flagsOf line) (rowsOf line)) e
 
-long-line : (x : List ℕ) → 1024 < length (readLine x .0) → listing x ≡ wordLine "refused" 1
+long-line : (x : List ℕ) → mostRows < length (readLine x .0) → listing x ≡ wordLine "refused" 1
 unfolding listing
-long-line x h = rw (lt-ltb 1024 (length (readLine x .0)) h)
+long-line x h = rw (lt-ltb mostRows (length (readLine x .0)) h)
 
 module _ (input : List ℕ) (k : ℕ) (h : k < length input) where
   front : length (take k input) ≡ k
@@ -67,8 +67,8 @@ module _ (input : List ℕ) (k : ℕ) (h : k < length input) where
       ∙ take-take i k input (omega arith)
       ∙ line-to input i (omega arith) o e)
 
-  -- with none among 1,025 both are too long
-  endless : 1025 ≤ k → Open input k → listing (take k input) ≡ listing input
+  -- with none among more than a table's rows both are too long
+  endless : mostRows < k → Open input k → listing (take k input) ≡ listing input
   endless l o =
       long-line (take k input) (omega (arith, line-long (take k input) k (omega (arith, front)) (open-front k (omega arith) o)))
       ∙ sym (long-line input (omega (arith, line-long input k (omega arith) o)))
@@ -97,7 +97,7 @@ getD-front l rest i h = sym (getD-take (length l) (l ++ rest) i 0 h) ∙ ap (λ 
 final : (l rest : List ℕ) → Suffices (l ++ rest) (length l) → listing (l ++ rest) ≡ listing l
 final l rest s = sym (suffices (l ++ rest) (length l) s) ∙ ap listing (take-append-seam l rest)
 
-pub long-final : (l : List ℕ) → 1025 ≤ length l → Final l
+long-final : (l : List ℕ) → mostRows < length l → Final l
 long-final l h rest = final l rest (inr (inl h))
 
 ended-final : (l : List ℕ) (i : ℕ) → i < length l → getD l i 0 ≡ 10 → Final l
@@ -109,13 +109,25 @@ ends-within (b ∷ bs) e = omega arith
 
 pub enough-final : (l : List ℕ) → enough l ≡ true → Final l
 unfolding enough
-enough-final l e = go (ltb 1024 (length l)) refl e
+enough-final l e = go (ltb mostRows (length l)) refl e
   where
-    go : (b : Bool) → ltb 1024 (length l) ≡ b → (b || eqb (getD l (length l - 1) 0) 10) ≡ true → Final l
-    go true h e = long-final l (ltb-true 1024 (length l) h)
+    go : (b : Bool) → ltb mostRows (length l) ≡ b → (b || eqb (getD l (length l - 1) 0) 10) ≡ true → Final l
+    go true h e = long-final l (ltb-true mostRows (length l) h)
     go false h e =
         let last = eqb-true (getD l (length l - 1) 0) 10 e in
         ended-final l (length l - 1) (ends-within l last) last
+
+-- where more are needed, they are no more than a table's rows
+short : (l : List ℕ) → enough l ≡ false → length l ≤ mostRows
+unfolding enough
+short l e = go (ltb mostRows (length l)) refl e
+  where
+    go : (b : Bool) → ltb mostRows (length l) ≡ b → (b || eqb (getD l (length l - 1) 0) 10) ≡ false → length l ≤ mostRows
+    go true h e = absurd (true≢false e)
+    go false h e = ltb-false mostRows (length l) h
+
+pub short-front : (l : List ℕ) (i : ℕ) → i ≤ length l → enough (take (i - 0) l) ≡ false → i ≤ mostRows
+short-front l i h e = omega (arith, short (take i l) (rw sub-zero at e), length-take-le i l h)
 
 -- of no bytes more are needed
 pub none-enough : (l : List ℕ) → length l ≡ 0 → false ≡ enough l

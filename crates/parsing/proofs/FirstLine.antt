@@ -33,7 +33,7 @@ line-to (b ∷ bs) (suc i) h f e =
     ap (λ (l : List ℕ). b ∷ l) (line-to bs i (le-of-suc-le-suc h) (λ k j. f (suc k) (omega arith)) e)
     ∙ sym (line-goes-on b bs (f 0 (omega arith)))
 
-pub line-all : (l : List ℕ) → ((k : ℕ) → k < length l → getD l k 0 ≡ 10 → ⊥) → l ≡ readLine l .0
+line-all : (l : List ℕ) → ((k : ℕ) → k < length l → getD l k 0 ≡ 10 → ⊥) → l ≡ readLine l .0
 unfolding readLine
 line-all [] f = refl
 line-all (b ∷ bs) f =

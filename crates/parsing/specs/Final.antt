@@ -8,9 +8,13 @@ use lib.Dec.{eqb, ltb}
 use lib.ListN.{length, getD}
 use Rattle.rule.specs.Listing.{listing}
 
+-- the rows of a table of ten flags
+abbrev pub mostRows : ℕ
+mostRows = 1024
+
 -- these bytes are more than a table's rows, or the last of them ends the line (of no bytes there is none: a byte that is not there counts as 0)
 unfoldable pub enough : List ℕ → Bool
-enough input = ltb 1024 (length input) || eqb (getD input (length input - 1) 0) 0x0A
+enough input = ltb mostRows (length input) || eqb (getD input (length input - 1) 0) 0x0A
 
 -- whatever follows these bytes, the same is printed
 abbrev pub Final : List ℕ → Type 0

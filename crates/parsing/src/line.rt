@@ -8,6 +8,9 @@ ghost use Rattle.rule.specs.Text.{readLine};
 ghost use Rattle.rule.specs.Listing.{isDigit, rowsOf, flagsFrom, lineRows};
 ghost use Rattle.parsing.specs.Final.{enough};
 
+// The rows of a table of ten flags.
+pub const MOST_ROWS: usize = 1024;
+
 // Where the first line ends: at the first 0A, or at the end of the input.
 pub fn line_end(input: &[u8]) -> usize
     ensures { λ r. ⌜ (r ≤ length (now (input .entry))) × (take r (now (input .entry)) ≡ readLine (now (input .entry)) .0) ⌝ }
@@ -26,7 +29,7 @@ pub fn line_end(input: &[u8]) -> usize
 pub fn is_enough(input: &[u8]) -> bool
     ensures { λ r. ⌜ r ≡ enough (now (input .entry)) ⌝ }
 {
-    if 1024 < input.len() {
+    if MOST_ROWS < input.len() {
         return true;
     }
     if input.len() == 0 {
@@ -35,7 +38,7 @@ pub fn is_enough(input: &[u8]) -> bool
     input[input.len() - 1] == 0x0A
 }
 
-// The flags of a table of so many rows, 11 where that is no power of two up to 1,024.
+// The flags of a table of so many rows, 11 where it is no power of two up to `MOST_ROWS`.
 pub fn flags_of(rows: usize) -> u8
     ensures { λ r. ⌜ (r ≡ flagsFrom 11 0 rows) × (r ≤ 11) ⌝ }
 {
@@ -77,7 +80,7 @@ fn all_digits(line: &[u8]) -> bool
 pub fn line_refusal(line: &[u8]) -> u8
     ensures { λ r. ⌜ r ≡ refusal (lineRows (now (line .entry))) ⌝ }
 {
-    if 1024 < line.len() {
+    if MOST_ROWS < line.len() {
         return 1;
     }
     if 10 < flags_of(line.len()) {

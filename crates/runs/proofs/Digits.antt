@@ -7,7 +7,6 @@ use Prim.Native.Nat.{ℕ, zero, suc, _+_, _*_, _/_, _%_, _≤_, _<_}
 use native.Mathlib.Decide.{decLt}
 use native.Mathlib.Omega.{arith}
 use borrow.Author.Tests.{lt-ltb, le-ltb}
-use lib.Dec.{ltb}
 use lib.ListN.{length, length-append}
 use Rattle.rule.specs.Text.{text, digitByte, decimalIn, decimal, number, lineEnd}
 use Rattle.runs.specs.Run.{Puts}
@@ -26,7 +25,7 @@ more-digits : (fuel x : ℕ) → 10 ≤ x → decimalIn (suc fuel) x ≡ decimal
 unfolding decimalIn
 more-digits fuel x h = ap (λ (b : Bool). digitsBy b fuel x) (le-ltb x 10 h)
 
-pub decimal-few : (x : ℕ) → x < 10 → decimal x ≡ digitByte x ∷ []
+decimal-few : (x : ℕ) → x < 10 → decimal x ≡ digitByte x ∷ []
 unfolding decimalIn
 decimal-few zero h = refl
 decimal-few (suc x) h = one-digit x (suc x) h
@@ -49,7 +48,7 @@ enough (suc f) (suc g) x h k =
           ∙ sym (more-digits g x l)
     ]
 
-pub decimal-more : (x : ℕ) → 10 ≤ x → decimal x ≡ decimal (x / 10) ++ (digitByte (x % 10) ∷ [])
+decimal-more : (x : ℕ) → 10 ≤ x → decimal x ≡ decimal (x / 10) ++ (digitByte (x % 10) ∷ [])
 decimal-more zero h = absurd (omega arith)
 decimal-more (suc x) h =
     more-digits x (suc x) h

@@ -12,16 +12,16 @@ fn put_decimal(bytes: &mut [u8], at: usize, x: u16) -> usize
     ensures { λ r. ⌜ Puts (now (bytes .entry)) at (decimal x) r (now (bytes .exit)) ⌝ }
 {
     if x < 10 {
-        return put_byte(bytes, at, 48 + x as u8);
+        return put_byte(bytes, at, b'0' + x as u8);
     }
     let next = put_decimal(bytes, at, x / 10);
-    put_byte(bytes, next, 48 + (x % 10) as u8)
+    put_byte(bytes, next, b'0' + (x % 10) as u8)
 }
 
 // Writes a blank and a number, which are at most six bytes.
 pub fn put_number(bytes: &mut [u8], at: usize, x: u16) -> usize
     requires { ⌜ at + 6 ≤ length (now bytes) ⌝ }
-    ensures { λ r. ⌜ Puts (now (bytes .entry)) at (number x) r (now (bytes .exit)) ⌝ }
+    ensures { λ r. ⌜ Puts (now (bytes .entry)) at (number x) r (now (bytes .exit)) × (r ≤ at + 6) ⌝ }
 {
     let next = put_byte(bytes, at, b' ');
     put_decimal(bytes, next, x)

@@ -1,4 +1,8 @@
 // A table drawn under an order, and held against what check, tabulate and walk say of it.
+use crate::lent::BYTE_JUNK;
+use crate::lent::CELL_JUNK;
+use crate::lent::MOST_ROWS;
+use parsing::flags_of;
 use rule::Counted;
 use rule::Done;
 use rule::Drawn;
@@ -8,18 +12,6 @@ use rule::Said;
 use words::print;
 use words::read::digits;
 use words::read::order;
-
-// The flags of a table of so many rows, 11 where it has none.
-pub fn flag_count(rows: usize) -> u8 {
-    let mut n: u8 = 0;
-    while n < 11 {
-        if (1usize << n) == rows {
-            return n;
-        }
-        n += 1;
-    }
-    n
-}
 
 // How many used records ask a flag.
 fn asking(cells: &[u16], used: u16, flag: u16) -> u16 {
@@ -129,17 +121,17 @@ pub fn drawn(n: u8, table: &[u8], order: Order, cells: &mut [u16], bytes: &mut [
 
 // d TABLE ORDER
 pub fn draw(text: &[u8], at: usize) {
-    let mut table = [0u8; 2048];
+    let mut table = [0u8; MOST_ROWS];
     let rows = digits(text, at, &mut table);
     let order = order(text, rows.next);
     let count = rows.value as usize;
-    if 2048 < count {
+    if MOST_ROWS < count {
         print::too_long();
         return;
     }
-    let n = flag_count(count);
-    let mut cells = [7u16; cells::MOST];
-    let mut bytes = [7u8; 2048];
+    let n = flags_of(count);
+    let mut cells = [CELL_JUNK; cells::MOST];
+    let mut bytes = [BYTE_JUNK; MOST_ROWS];
     match drawn(n, &table[0..count], order, &mut cells, &mut bytes[0..count]) {
         Drawn::Refused(k) => print::refused(k),
         Drawn::Diagram { nodes, root } => {

@@ -1,11 +1,16 @@
 // One call a line.
 use crate::draw::drawn;
+use crate::lent::BYTE_JUNK;
+use crate::lent::CELL_JUNK;
+use crate::lent::MOST_CELLS;
+use crate::lent::MOST_ROWS;
 use rule::Counted;
 use rule::Done;
 use rule::Drawn;
 use rule::Node;
 use rule::Order;
 use rule::Said;
+use words::lent::each_is;
 use words::print;
 use words::read::cells;
 use words::read::digits;
@@ -17,56 +22,48 @@ pub fn flags(value: u16) -> u8 {
     (value % 256) as u8
 }
 
-// Whether each cell still has the 7 that it was lent with.
-fn as_lent(cells: &[u16; 4096]) -> bool {
-    let mut i = 0;
-    while i < 4096 {
-        if cells[i] != 7 {
-            return false;
-        }
-        i += 1;
-    }
-    true
-}
-
-// b N CELLS TABLE ORDER
-pub fn build(text: &[u8], at: usize) {
-    let n = number(text, at);
-    let lent = number(text, n.next);
-    let mut table = [0u8; 2048];
-    let rows = digits(text, lent.next, &mut table);
-    let order = order(text, rows.next);
-    let mut cells = [7u16; 4096];
-    let count = rows.value as usize;
-    let length = lent.value as usize;
-    if 2048 < count {
-        print::too_long();
-        return;
-    }
-    if 4096 < length {
-        print::too_long();
-        return;
-    }
-    let mut bytes = [7u8; 2048];
-    let answer = drawn(
-        flags(n.value),
-        &table[0..count],
-        order,
-        &mut cells[0..length],
-        &mut bytes[0..count],
-    );
-    match answer {
+// What build answers, and whether a refusal altered the lent cells.
+fn built(n: u8, table: &[u8], order: Order, cells: &mut [u16], bytes: &mut [u8]) {
+    match drawn(n, table, order, cells, bytes) {
         Drawn::Diagram { nodes, root } => {
             print::number(b"nodes", nodes);
             print::number(b" root", root.number);
         }
         Drawn::Refused(k) => {
             print::refused(k);
-            if !as_lent(&cells) {
+            if !each_is(cells, CELL_JUNK) {
                 print::text(b" altered");
             }
         }
     }
+}
+
+// b N CELLS TABLE ORDER
+pub fn build(text: &[u8], at: usize) {
+    let n = number(text, at);
+    let lent = number(text, n.next);
+    let mut table = [0u8; MOST_ROWS];
+    let rows = digits(text, lent.next, &mut table);
+    let order = order(text, rows.next);
+    let mut cells = [CELL_JUNK; MOST_CELLS];
+    let count = rows.value as usize;
+    let length = lent.value as usize;
+    if MOST_ROWS < count {
+        print::too_long();
+        return;
+    }
+    if MOST_CELLS < length {
+        print::too_long();
+        return;
+    }
+    let mut bytes = [BYTE_JUNK; MOST_ROWS];
+    built(
+        flags(n.value),
+        &table[0..count],
+        order,
+        &mut cells[0..length],
+        &mut bytes[0..count],
+    );
 }
 
 // A node of records in use, and the place behind it.
@@ -96,7 +93,7 @@ fn place(text: &[u8], at: usize) -> Asked {
 // c N ORDER USED ROOT CELL CELL ..
 pub fn check(text: &[u8], at: usize) {
     let of = place(text, at);
-    let mut lent = [0u16; 4096];
+    let mut lent = [0u16; MOST_CELLS];
     let length = cells(text, of.next, &mut lent);
     let counted = checking::check(of.n, of.order, &lent[0..length], of.used, of.node);
     match counted {
@@ -109,7 +106,7 @@ pub fn check(text: &[u8], at: usize) {
 pub fn walk(text: &[u8], at: usize) {
     let of = place(text, at);
     let row = number(text, of.next);
-    let mut lent = [0u16; 4096];
+    let mut lent = [0u16; MOST_CELLS];
     let length = cells(text, row.next, &mut lent);
     let said = walking::walk(
         of.n,
@@ -129,11 +126,11 @@ pub fn walk(text: &[u8], at: usize) {
 pub fn tabulate(text: &[u8], at: usize) {
     let of = place(text, at);
     let bytes = number(text, of.next);
-    let mut lent = [0u16; 4096];
+    let mut lent = [0u16; MOST_CELLS];
     let length = cells(text, bytes.next, &mut lent);
-    let mut rows = [7u8; 2048];
+    let mut rows = [BYTE_JUNK; MOST_ROWS];
     let count = bytes.value as usize;
-    if 2048 < count {
+    if MOST_ROWS < count {
         print::too_long();
         return;
     }

@@ -1,8 +1,12 @@
 // A table packed in lent cells and a lent workspace that are full of junk, and what was lent looked at afterwards.
 use crate::draw::agrees;
-use crate::draw::flag_count;
 use crate::draw::flag_counts;
+use crate::lent::BYTE_JUNK;
+use crate::lent::CELL_JUNK;
+use crate::lent::MOST_CELLS;
+use crate::lent::MOST_ROWS;
 use crate::one::flags;
+use parsing::flags_of;
 use rule::Drawn;
 use rule::Order;
 use rule::Packed;
@@ -15,12 +19,7 @@ use words::read::number;
 const WORKSPACE: usize = 59052;
 
 // What a workspace is lent with.
-const JUNK: u16 = 5;
-
-// A byte as a cell.
-fn wide(byte: u8) -> u16 {
-    byte as u16
-}
+const WORKSPACE_JUNK: u16 = 5;
 
 // The first n places of an order.
 fn places(n: u8, order: Order) {
@@ -30,7 +29,7 @@ fn places(n: u8, order: Order) {
     while i < n {
         if i < 10 {
             let at = i as usize;
-            print::number(b"", wide(places[at]));
+            print::number(b"", places[at] as u16);
         }
         i += 1;
     }
@@ -50,16 +49,16 @@ fn compare(n: u8, table: &[u8], packed: Packed, cells: &[u16], bytes: &mut [u8])
 
 // p TABLE
 pub fn pack(text: &[u8], at: usize) {
-    let mut table = [0u8; 2048];
+    let mut table = [0u8; MOST_ROWS];
     let rows = digits(text, at, &mut table);
     let count = rows.value as usize;
-    if 2048 < count {
+    if MOST_ROWS < count {
         print::too_long();
         return;
     }
-    let n = flag_count(count);
-    let mut cells = [7u16; cells::MOST];
-    let mut workspace = [JUNK; WORKSPACE];
+    let n = flags_of(count);
+    let mut cells = [CELL_JUNK; cells::MOST];
+    let mut workspace = [WORKSPACE_JUNK; WORKSPACE];
     let packed = packing::pack(n, &table[0..count], &mut cells, &mut workspace);
     let answer = packed.answer;
     match answer {
@@ -70,7 +69,7 @@ pub fn pack(text: &[u8], at: usize) {
             flag_counts(n, &cells, nodes);
         }
     }
-    let mut bytes = [7u8; 2048];
+    let mut bytes = [BYTE_JUNK; MOST_ROWS];
     compare(n, &table[0..count], packed, &cells, &mut bytes[0..count]);
     if !each_is(&workspace, 0) {
         print::text(b" workspace left");
@@ -79,7 +78,7 @@ pub fn pack(text: &[u8], at: usize) {
 
 // What a workspace has after a call: the junk that it was lent with, 0 in each cell, or neither.
 fn workspace_after(workspace: &[u16]) {
-    if each_is(workspace, JUNK) {
+    if each_is(workspace, WORKSPACE_JUNK) {
         print::text(b" workspace kept");
     } else if each_is(workspace, 0) {
         print::text(b" workspace 0");
@@ -100,7 +99,7 @@ fn lent(n: u8, table: &[u8], cells: &mut [u16], workspace: &mut [u16], bytes: &m
         Drawn::Refused(k) => {
             print::refused(k);
             workspace_after(workspace);
-            if each_is(cells, 7) {
+            if each_is(cells, CELL_JUNK) {
                 print::text(b" cells kept");
             } else {
                 print::text(b" cells altered");
@@ -115,16 +114,16 @@ pub fn pack_lent(text: &[u8], at: usize) {
     let n = number(text, at);
     let lent_cells = number(text, n.next);
     let lent_workspace = number(text, lent_cells.next);
-    let mut table = [0u8; 2048];
+    let mut table = [0u8; MOST_ROWS];
     let rows = digits(text, lent_workspace.next, &mut table);
     let count = rows.value as usize;
     let length = lent_cells.value as usize;
     let width = lent_workspace.value as usize;
-    if 2048 < count {
+    if MOST_ROWS < count {
         print::too_long();
         return;
     }
-    if 4096 < length {
+    if MOST_CELLS < length {
         print::too_long();
         return;
     }
@@ -132,9 +131,9 @@ pub fn pack_lent(text: &[u8], at: usize) {
         print::too_long();
         return;
     }
-    let mut cells = [7u16; 4096];
-    let mut workspace = [JUNK; WORKSPACE];
-    let mut bytes = [7u8; 2048];
+    let mut cells = [CELL_JUNK; MOST_CELLS];
+    let mut workspace = [WORKSPACE_JUNK; WORKSPACE];
+    let mut bytes = [BYTE_JUNK; MOST_ROWS];
     lent(
         flags(n.value),
         &table[0..count],

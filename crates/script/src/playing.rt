@@ -1,9 +1,8 @@
 use crate::draw::draw;
 use crate::one;
 use crate::pack;
-use libc::STDIN_FILENO;
+use words::lines;
 use words::print;
-use words::read::line_end;
 
 // One line: its call, and a line of output.
 fn line(text: &[u8]) {
@@ -24,23 +23,18 @@ fn line(text: &[u8]) {
     print::line_end();
 }
 
-fn lines(text: &[u8]) {
-    let mut at = 0;
-    while at < text.len() {
-        let end = line_end(text, at);
-        line(&text[at..end]);
-        at = end + 1;
+fn each_line(buffer: &mut [u8]) {
+    let mut found = lines::first(buffer);
+    while 0 < found.left {
+        let start = found.start;
+        let end = found.end;
+        line(&buffer[start..end]);
+        found = lines::next(buffer, found);
     }
 }
 
-// Every line of standard input, or that there is more of it than can be read.
+// Every line of standard input.
 pub fn run() {
     let mut buffer = io::large_buffer();
-    let n = io::read_full(STDIN_FILENO, &mut buffer);
-    if buffer.len() <= n {
-        print::too_long();
-        print::line_end();
-        return;
-    }
-    lines(&buffer[..n]);
+    each_line(&mut buffer);
 }

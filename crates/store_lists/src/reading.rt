@@ -4,14 +4,13 @@ use crate::ending::end;
 use crate::session::CALLS;
 use crate::session::NONE;
 use crate::session::Session;
-use libc::STDIN_FILENO;
 use rule::Order;
 use store::Store;
+use words::lines;
 use words::print;
 use words::read::Word;
 use words::read::behind;
 use words::read::byte;
-use words::read::line_end;
 use words::read::number;
 use words::read::order;
 
@@ -100,25 +99,20 @@ fn line(s: Session, text: &[u8], cells: &mut [u16]) -> Session {
     call(s, text, &mut cells[0..lent], command)
 }
 
-fn lines(text: &[u8], cells: &mut [u16]) {
+fn each_line(buffer: &mut [u8], cells: &mut [u16]) {
     let mut s = fresh(0);
-    let mut at = 0;
-    while at < text.len() {
-        let end = line_end(text, at);
-        s = line(s, &text[at..end], cells);
-        at = end + 1;
+    let mut found = lines::first(buffer);
+    while 0 < found.left {
+        let start = found.start;
+        let end = found.end;
+        s = line(s, &buffer[start..end], cells);
+        found = lines::next(buffer, found);
     }
 }
 
-// Every line of standard input, or that there is more of it than can be read.
+// Every line of standard input.
 pub fn run() {
     let mut buffer = io::large_buffer();
-    let n = io::read_full(STDIN_FILENO, &mut buffer);
-    if buffer.len() <= n {
-        print::too_long();
-        print::line_end();
-        return;
-    }
     let mut cells = [0u16; MOST];
-    lines(&buffer[..n], &mut cells);
+    each_line(&mut buffer, &mut cells);
 }

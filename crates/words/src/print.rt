@@ -36,14 +36,17 @@ pub fn line_end() {
 
 // A row's digit as a character.
 fn character(digit: u8) -> u8 {
-    if digit < 10 { 48 + digit } else { b'?' }
+    if digit < 10 { b'0' + digit } else { b'?' }
 }
 
-// The rows of a table, a digit each: 2,048 of them at most.
+// The rows that are printed at most: those of a table of eleven flags.
+const MOST_ROWS: usize = 2048;
+
+// The rows of a table, a digit each.
 pub fn rows(table: &[u8]) {
-    let mut text = [0u8; 2048];
+    let mut text = [0u8; MOST_ROWS];
     let mut i = 0;
-    while i < 2048 {
+    while i < MOST_ROWS {
         if table.len() <= i {
             break;
         }

@@ -32,13 +32,13 @@ pub fn number(text: &[u8], at: usize) -> Word {
     let mut i = at;
     while i < text.len() {
         let byte = text[i];
-        if byte < 48 {
+        if byte < b'0' {
             return Word {
                 value: (value % 65536) as u16,
                 next: i + 1,
             };
         }
-        value = (value * 10 + (print::wide(byte) - 48) % 10) % 65536;
+        value = (value * 10 + print::wide(byte - b'0') % 10) % 65536;
         i += 1;
     }
     Word {
@@ -67,13 +67,13 @@ pub fn digits(text: &[u8], at: usize, out: &mut [u8]) -> Word {
     let mut i = at;
     while i < text.len() {
         let byte = text[i];
-        if byte < 48 {
+        if byte < b'0' {
             return Word {
                 value: count,
                 next: i + 1,
             };
         }
-        put(out, count as usize, byte - 48);
+        put(out, count as usize, byte - b'0');
         count = after(count);
         i += 1;
     }
@@ -95,8 +95,8 @@ fn digit(character: u8) -> u8
     ensures { λ r. ⌜ r < 16 ⌝ }
 {
     match character {
-        b'0'..=b'9' => character - 48,
-        b'a'..=b'f' => character - 87,
+        b'0'..=b'9' => character - b'0',
+        b'a'..=b'f' => character - b'a' + 10,
         _ => 0,
     }
 }
@@ -107,7 +107,7 @@ pub fn bytes(text: &[u8], at: usize, out: &mut [u8]) -> Word {
     let mut i = at;
     while i < text.len() {
         let second = i + 1;
-        if text[i] < 48 {
+        if text[i] < b'0' {
             return Word {
                 value: count,
                 next: behind(text, i),

@@ -1,4 +1,4 @@
--- `console::read` meets its contract: each byte moves it on, and the whole of what was lent is enough.
+-- `console::read` meets its contract: bytes that are not enough are no more than a table's rows, so each finds a place.
 -- Assumes nothing.
 use mathlib.Core.Path.{_≡_, sym, _∙_}
 use mathlib.Core.Bool.{true≢false}
@@ -6,9 +6,9 @@ use Prim.Native.Nat.{_-_, _≤_}
 use native.Mathlib.Nat.{sub-zero}
 use native.Mathlib.Omega.{arith}
 use borrow.Author.Needs.{needs}
-use lib.ListN.{length, take, length-set}
-use lib.Seq.{length-take-le}
-use Rattle.parsing.proofs.Enough.{long-final, enough-final}
+use borrow.Author.Tests.{not-true, not-false}
+use lib.ListN.{length}
+use Rattle.parsing.proofs.Enough.{enough-final, short-front}
 use Rattle.console.proofs.read.Statement.{statement}
 use Rattle.console.proofs.read.Tie as tie
 
@@ -21,24 +21,31 @@ abbrev μ-loop : tie.MeasureT-loop
 returns : tie.Need-returns Inv-loop μ-loop
 returns c = (search needs, λ e. absurd (true≢false e))
 
-part-is-enough-end : tie.Need-part-is-enough-end Inv-loop μ-loop
-part-is-enough-end c = simp length-set (omega (arith, c .before .before .before .before .before .loop-test .taken))
+slice-write-input : tie.Need-slice-write-input Inv-loop μ-loop
+slice-write-input c =
+    let test = c .before .before .before .before in
+    let at = test .before .before .before .before in
+    let few = short-front (at .loop .input) (at .loop .i) (omega (arith, at .loop .inv .1)) (sym (test .before .is-enough .ensures) ∙ not-true _ (test .if1 .taken)) in
+    omega (arith, few, at .before .before .pre, at .loop .inv .1)
+
+loop-less : tie.Need-loop-less Inv-loop μ-loop
+loop-less c =
+    let test = c .before .before .before .before in
+    let at = test .before .before .before .before in
+    let few = short-front (at .loop .input) (at .loop .i) (omega (arith, at .loop .inv .1)) (sym (test .before .is-enough .ensures) ∙ not-true _ (test .if1 .taken)) in
+    omega (arith, few, at .before .before .pre)
+
+loop-again : tie.Need-loop-again Inv-loop μ-loop
+loop-again c =
+    let test = c .before .before .before .before in
+    let at = test .before .before .before .before in
+    let few = short-front (at .loop .input) (at .loop .i) (omega (arith, at .loop .inv .1)) (sym (test .before .is-enough .ensures) ∙ not-true _ (test .if1 .taken)) in
+    (omega (arith, few, at .before .before .pre), search needs)
 
 returns-2 : tie.Need-returns-2 Inv-loop μ-loop
 returns-2 c =
-    let size = c .so-many .ensures .0 in (
-      rw size (simp length-set (omega (arith, c .before .before .before .before .before .before .before .before .before .loop-test .taken))),
-      λ e. rw (c .so-many .ensures .0) (rw sub-zero at (enough-final _ (sym (c .before .before .is-enough .ensures) ∙ c .before .if2 .taken))),
-    )
-
-returns-3 : tie.Need-returns-3 Inv-loop μ-loop
-returns-3 c =
-    let at = c .before .before in
-    let i = at .loop .i in
-    let front = length-take-le i (at .loop .input) (omega (arith, at .loop .inv .1)) in (
-      omega (arith, c .so-many2 .ensures .0, at .loop .inv .1),
-      λ e. rw (c .so-many2 .ensures .0) (long-final (take i (at .loop .input)) (omega (arith, front, at .before .before .pre))),
-    )
+    let at = c .before .before .before .before in
+    (omega (arith, at .loop .inv .1), λ e. rw sub-zero at (enough-final _ (sym (c .before .is-enough .ensures) ∙ not-false _ (c .if1 .left))))
 
 pub read-spec : {M : Type 1} → statement M
 read-spec =
@@ -48,21 +55,17 @@ read-spec =
     μ-loop
     (λ c. search needs)
     (λ c. search needs)
+    (λ c. search needs)
+    (λ c. search needs)
+    (λ c κs. search needs)
+    (λ c. search needs)
     (λ c κs. search needs)
     (λ c. search needs)
     returns
     (λ c. search needs)
+    slice-write-input
     (λ c. search needs)
+    loop-less
+    loop-again
     (λ c. search needs)
-    (λ c. search needs)
-    (λ c. search needs)
-    part-is-enough-end
-    (λ c κs. search needs)
-    (λ c κs. search needs)
-    (λ c. search needs)
-    returns-2
-    (λ c. search needs)
-    (λ c. search needs)
-    (λ c κs. search needs)
-    (λ c. search needs)
-    returns-3)
+    returns-2)

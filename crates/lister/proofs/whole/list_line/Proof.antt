@@ -8,6 +8,7 @@ use denote.Ref.{now}
 use lib.ListN.{length, length-replicate}
 use Rattle.rule.specs.Table.{fitRows}
 use Rattle.rule.specs.Text.{text}
+use Rattle.parsing.specs.Final.{mostRows}
 use Rattle.parsing.proofs.FirstLine.{rows-power}
 use Rattle.parsing.proofs.Characters.{rows-fit, rows-length, held-front, read-front, read-room}
 use Rattle.lister.proofs.Listed.{line-refused, line-fits, line-listed}
@@ -24,7 +25,7 @@ returns c =
 part-rows-end : tie.Need-part-rows-end
 part-rows-end c =
     let start = c .before .before .before .before in
-    omega (arith, line-fits (now (start .args .line)) (c .before .line-refusal .ensures) (c .if1 .left) .0, length-replicate {A = ℕ} 1024 0)
+    omega (arith, line-fits (now (start .args .line)) (c .before .line-refusal .ensures) (c .if1 .left) .0, length-replicate {A = ℕ} mostRows 0)
 
 read-rows-requires : tie.Need-read-rows-requires
 read-rows-requires c κs =

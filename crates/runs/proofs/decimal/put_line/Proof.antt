@@ -12,7 +12,7 @@ put-byte-requires c κs =
     let number = c .before .before .before in
     let word = number .before .before .before .before in
     let start = word .before .before .before .before in
-    omega (arith, line-fits (now (start .args .word)) (start .args .x) (omega arith) (start .pre) (word .put-run .ensures) (number .put-number .ensures))
+    omega (arith, line-fits (now (start .args .word)) (start .args .x) (omega arith) (start .pre) (word .put-run .ensures) (number .put-number .ensures .0))
 
 returns : tie.Need-returns
 returns c =
@@ -20,7 +20,7 @@ returns c =
     let word = number .before .before .before .before in
     let start = word .before .before .before .before in
     let run = word .put-run .ensures in
-    let digits = number .put-number .ensures in
+    let digits = number .put-number .ensures .0 in
     let end = c .before .before .put-byte .ensures in (
       puts-line (now (start .args .word)) (start .args .x) (omega arith) (start .pre) run digits end,
       line-ends (now (start .args .word)) (start .args .x) (omega arith) (start .pre) run digits end,

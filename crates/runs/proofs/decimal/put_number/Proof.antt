@@ -2,7 +2,7 @@
 -- Assumes nothing.
 use native.Mathlib.Omega.{arith}
 use borrow.Author.Needs.{needs}
-use Rattle.runs.proofs.Digits.{digits-fit, puts-number}
+use Rattle.runs.proofs.Digits.{digits-fit, number-le, puts-number}
 use Rattle.runs.proofs.decimal.put_number.Statement.{statement}
 use Rattle.runs.proofs.decimal.put_number.Tie as tie
 
@@ -16,7 +16,8 @@ returns : tie.Need-returns
 returns c =
     let blank = c .before .before .before .before .before .before in
     let start = blank .before .before .before in
-    puts-number (start .args .x) (omega arith) (start .pre) (blank .put-byte .ensures) (c .before .before .put-decimal .ensures)
+    let whole = puts-number (start .args .x) (omega arith) (start .pre) (blank .put-byte .ensures) (c .before .before .put-decimal .ensures) in
+    (whole, omega (arith, whole .next-is, number-le (start .args .x) (omega arith)))
 
 pub put-number-spec : {M : Type 1} → statement M
 put-number-spec = tie.close (tie.spec (λ c κs. search needs) put-decimal-requires (λ c. search needs) returns)
