@@ -5,7 +5,7 @@ ghost use Prim.Native.Nat.{_+_, _≤_, _<_};
 ghost use Rattle.rule.specs.Cells.{room};
 ghost use Rattle.theory.specs.Child.{child};
 ghost use Rattle.theory.specs.Level.{levelOf};
-ghost use Rattle.apply.specs.Step.{Stands, earlier};
+ghost use Rattle.apply.specs.Step.{Stands, asksSame, earlier};
 
 // The level of a node: that of the flag that it asks, n for an end node.
 pub fn level_of(levels: Levels, cells: &[u16], m: u16) -> u8
@@ -18,11 +18,28 @@ pub fn level_of(levels: Levels, cells: &[u16], m: u16) -> u8
     levels.level(cells::flag_at(cells, m - 2))
 }
 
-// The one of two nodes that stands at the earlier level, the first where they stand at one.
+// Whether two nodes are records that ask one flag.
+fn asks_same(cells: &[u16], f: u16, g: u16) -> bool
+    requires { ⌜ (f ≤ room (now cells) + 1) × (g ≤ room (now cells) + 1) ⌝ }
+    ensures { λ r. ⌜ r ≡ asksSame (now (cells .entry)) f g ⌝ }
+{
+    if f < 2 {
+        return false;
+    }
+    if g < 2 {
+        return false;
+    }
+    cells::flag_at(cells, f - 2) == cells::flag_at(cells, g - 2)
+}
+
+// The one of two nodes that stands at the earlier level, the first where they stand at one. Where both ask one flag no level is looked up.
 pub fn earlier(levels: Levels, cells: &[u16], f: u16, g: u16) -> u16
     requires { ⌜ Stands levels (now cells) f × Stands levels (now cells) g ⌝ }
     ensures { λ r. ⌜ r ≡ earlier (levels .n) (levels .order .places) (now (cells .entry)) f g ⌝ }
 {
+    if asks_same(cells, f, g) {
+        return f;
+    }
     if level_of(levels, cells, f) <= level_of(levels, cells, g) {
         return f;
     }

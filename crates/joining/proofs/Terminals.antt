@@ -83,12 +83,12 @@ module _ (value : ℕ → ℕ) (no-is : value 0 ≡ 0) (yes-is : value 1 ≡ 1) 
 picked-is : (P : ℕ → Type 0) → P 0 → P 1 → {m : ℕ} → P m → (a b : ℕ) {p : ℕ} → a < 2 → Gives p (byDigits a b m) → P p
 unfolding byDigits
 picked-is P x y z a b h e =
-    elim (ℕ-discrete a b) [
-      | yes q ↦ subst P (rw (eq-eqb a b q) at e) (two P x y a h)
-      | no q ↦
-          elim (ℕ-discrete a 0) [
-            | yes i ↦ subst P (rw (ne-eqb a b q, eq-eqb a 0 i) at e) z
-            | no i ↦ absurd (rw (ne-eqb a b q, ne-eqb a 0 i) at e)
+    elim (decLt b a) [
+      | yes i ↦ absurd (rw (lt-ltb b a i) at e)
+      | no i ↦
+          elim (ℕ-discrete a b) [
+            | yes q ↦ subst P (rw (le-ltb b a (omega arith), eq-eqb a b q) at e) (two P x y a h)
+            | no q ↦ subst P (rw (le-ltb b a (omega arith), ne-eqb a b q) at e) z
           ]
     ]
 

@@ -2,15 +2,15 @@
 -- Assumes nothing.
 use mathlib.Core.Bool.{cond}
 use Prim.Native.Nat.{ℕ}
-use lib.Dec.{eqb}
+use lib.Dec.{eqb, ltb}
 use Rattle.rule.specs.Cells.{isEnd}
 use Rattle.rule.specs.Results.{digit}
 use Rattle.joining.specs.declared.terminal.Terminal.{Terminal}
 use Rattle.joining.specs.declared.terminal.Terminal.the-variants.{Node, Down}
 
--- what a node's rule becomes where a digit stands for its no and one for its yes: an end node where they are one, itself for 0 and 1, else its opposite
+-- what a node's rule becomes where a digit stands for its no and one for its yes: for 1 and 0 its opposite, an end node where they are one, else itself
 unfoldable pub byDigits : ℕ → ℕ → ℕ → Terminal
-byDigits for-no for-yes m = cond (eqb for-no for-yes) (Node for-no) (cond (eqb for-no 0) (Node m) Down)
+byDigits for-no for-yes m = cond (ltb for-yes for-no) Down (cond (eqb for-no for-yes) (Node for-no) (Node m))
 
 -- two end nodes; an end node beside a record; a record beside itself
 unfoldable pub terminal : ℕ → ℕ → ℕ → Terminal
