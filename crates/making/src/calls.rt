@@ -8,6 +8,7 @@ ghost use Rattle.rule.specs.Answers.{madeReply};
 ghost use Rattle.rule.specs.Calls.{Flag, Join, Choose, Fix};
 ghost use Rattle.making.specs.State.{state};
 
+// The node of the rule that is one flag.
 pub fn flag(n: u8, order: Order, cells: &mut [u16], used: u16, i: u16) -> Outcome
     ensures { λ r. ⌜ Flag (state n (order .places) used) (now (cells .entry)) i (madeReply (r .answer)) (state n (order .places) (r .used)) (now (cells .exit)) ⌝ }
 {
@@ -21,6 +22,7 @@ pub fn flag(n: u8, order: Order, cells: &mut [u16], used: u16, i: u16) -> Outcom
     conclude(cells, used, grown)
 }
 
+// The node of two rules joined by an operator.
 pub fn join(
     n: u8,
     order: Order,
@@ -44,6 +46,7 @@ pub fn join(
     conclude(cells, used, grown)
 }
 
+// The node of the second rule where the first says yes, else of the third.
 pub fn choose(
     n: u8,
     order: Order,
@@ -68,6 +71,7 @@ pub fn choose(
     conclude(cells, used, grown)
 }
 
+// The node of a rule with a flag fixed to a value.
 pub fn fix(
     n: u8,
     order: Order,

@@ -2,9 +2,9 @@
 -- Assumes nothing.
 use mathlib.Core.Path.{_≡_, refl, sym, ap, _∙_}
 use mathlib.Core.Bool.{Bool, true, false, not}
-use Prim.Native.Nat.{ℕ, _≤_}
+use Prim.Native.Nat.{ℕ}
 use native.Mathlib.Omega.{arith}
-use borrow.Author.Tests.{ltb-false, not-true, not-false}
+use borrow.Author.Tests.{not-true, not-false}
 use lib.Dec.{ltb}
 use Rattle.rule.specs.Reply.{numberOf}
 use Rattle.operators.specs.declared.Digit.{Digit}
@@ -40,6 +40,3 @@ module _ (code : ℕ) {r : Bool} (e : r ≡ not (ltb 15 code)) where
 
   pub operator : not r ≡ false → ltb 15 code ≡ false
   operator h = not-true (ltb 15 code) (sym e ∙ not-false r h)
-
-  pub code-le : not r ≡ false → code ≤ 15
-  code-le h = ltb-false 15 code (operator h)

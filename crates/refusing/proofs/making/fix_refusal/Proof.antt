@@ -2,6 +2,7 @@
 -- Assumes nothing.
 use mathlib.Core.Path.{refl}
 use mathlib.Core.List.{[], _∷_}
+use native.Mathlib.Omega.{arith}
 use borrow.Author.Needs.{needs}
 use borrow.Author.Tests.{lt-ltb, le-ltb, le-leb, lt-leb}
 use denote.Ref.{now}
@@ -36,7 +37,7 @@ returns-3 c =
     (one-node (s .n) (s .order .places) (now (s .cells)) (s .used) (s .m) (at .nodes-refusal .ensures))
     refl
     (c .before .before .if1 .left)
-    (rw (lt-leb _ _ (c .before .if2 .left), lt-ltb _ _ (c .if3 .taken)))
+    (rw (lt-leb _ _ (c .before .if2 .left), lt-ltb 1 (s .value) (omega (arith, c .if3 .taken))))
 
 returns-4 : tie.Need-returns-4
 returns-4 c =
@@ -46,7 +47,7 @@ returns-4 c =
     (one-node (s .n) (s .order .places) (now (s .cells)) (s .used) (s .m) (at .nodes-refusal .ensures))
     refl
     (c .before .before .if1 .left)
-    (rw (lt-leb _ _ (c .before .if2 .left), le-ltb _ _ (c .if3 .left)))
+    (rw (lt-leb _ _ (c .before .if2 .left), le-ltb 1 (s .value) (omega (arith, c .if3 .left))))
 
 pub fix-refusal-spec : {M : Type 1} → statement M
 fix-refusal-spec = tie.close (tie.spec (λ c κs. search needs) returns returns-2 returns-3 returns-4)

@@ -2,6 +2,7 @@
 -- Assumes nothing.
 use mathlib.Core.Path.{refl}
 use mathlib.Core.List.{[], _∷_, map}
+use Prim.Native.Nat.{_+_}
 use native.Mathlib.Omega.{arith}
 use borrow.Author.Needs.{needs}
 use borrow.Author.Tests.{lt-ltb, le-ltb}
@@ -38,7 +39,7 @@ returns-2 c =
     (cells-tested (s .n) (s .order .places) (now (s .cells)) (s .used) (at .records-refusal .ensures))
     refl
     (c .before .if1 .left)
-    (rw (lt-ltb _ _ (c .if2 .taken)))
+    (rw (lt-ltb (s .used + 1) (s .f) (omega (arith, c .if2 .taken))))
 
 returns-3 : tie.Need-returns-3
 returns-3 c =
@@ -48,7 +49,7 @@ returns-3 c =
     (cells-tested (s .n) (s .order .places) (now (s .cells)) (s .used) (at .records-refusal .ensures))
     refl
     (c .before .before .if1 .left)
-    (rw (le-ltb _ _ (c .before .if2 .left), lt-ltb _ _ (c .if3 .taken)))
+    (rw (le-ltb (s .used + 1) (s .f) (omega (arith, c .before .if2 .left)), lt-ltb (s .used + 1) (s .g) (omega (arith, c .if3 .taken))))
 
 returns-4 : tie.Need-returns-4
 returns-4 c =
@@ -58,7 +59,7 @@ returns-4 c =
     (cells-tested (s .n) (s .order .places) (now (s .cells)) (s .used) (at .records-refusal .ensures))
     refl
     (c .before .before .before .if1 .left)
-    (rw (le-ltb _ _ (c .before .before .if2 .left), le-ltb _ _ (c .before .if3 .left), lt-ltb _ _ (c .if4 .taken)))
+    (rw (le-ltb (s .used + 1) (s .f) (omega (arith, c .before .before .if2 .left)), le-ltb (s .used + 1) (s .g) (omega (arith, c .before .if3 .left)), lt-ltb (s .used + 1) (s .h) (omega (arith, c .if4 .taken))))
 
 returns-5 : tie.Need-returns-5
 returns-5 c =
@@ -68,7 +69,7 @@ returns-5 c =
     (cells-tested (s .n) (s .order .places) (now (s .cells)) (s .used) (at .records-refusal .ensures))
     refl
     (c .before .before .before .if1 .left)
-    (rw (le-ltb _ _ (c .before .before .if2 .left), le-ltb _ _ (c .before .if3 .left), le-ltb _ _ (c .if4 .left)))
+    (rw (le-ltb (s .used + 1) (s .f) (omega (arith, c .before .before .if2 .left)), le-ltb (s .used + 1) (s .g) (omega (arith, c .before .if3 .left)), le-ltb (s .used + 1) (s .h) (omega (arith, c .if4 .left))))
 
 pub nodes-refusal-spec : {M : Type 1} → statement M
 nodes-refusal-spec =
