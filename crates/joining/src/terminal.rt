@@ -26,17 +26,18 @@ fn digit(code: u8, first: u16, second: u16) -> u16
 }
 
 // What a node's rule becomes by the digits for its no and its yes: their end node where they are one, itself where each stays. Its opposite, for 1 and 0, is gone
-// down for, since that may have records that the store lacks. It is tested first: then one choice between two nodes is left, which needs no jump.
+// down for, since that may have records that the store lacks. The other two are told apart without a jump, which half the time would be the wrong one.
 fn by_digits(no: u16, yes: u16, m: u16) -> Terminal
     ensures { λ r. ⌜ r ≡ byDigits no yes m ⌝ }
 {
     if yes < no {
         return Terminal::Down;
     }
+    let mut node = m;
     if no == yes {
-        return Terminal::Node(no);
+        node = no;
     }
-    Terminal::Node(m)
+    Terminal::Node(node)
 }
 
 // Two end nodes, an end node and a record, or one record twice.
