@@ -95,14 +95,14 @@ search-records c flag low high zero = inr (λ j h. absurd (omega arith))
 search-records c flag low high (suc k) =
     elim (search-records c flag low high k) [
       | inl (j, h, i) ↦ inl (j, omega arith, i)
-      | inr none ↦
+      | inr absent ↦
           elim (is? c k flag low high) [
             | yes i ↦ inl (k, omega arith, i)
             | no d ↦
                 inr (λ j h i.
                 elim (eq-or-lt-of-le (le-of-suc-le-suc h)) [
                   | inl e ↦ d (subst (λ (x : ℕ). Is c x flag low high) e i)
-                  | inr l ↦ none j l i
+                  | inr l ↦ absent j l i
                 ])
           ]
     ]
@@ -115,10 +115,10 @@ makes c used flag low high h =
       | no d ↦
           elim (search-records c flag low high used) [
             | inl (j, l, i) ↦ (grown used (j + 2), c, old d j l i)
-            | inr none ↦
+            | inr absent ↦
                 elim (eq-or-lt-of-le h) [
-                  | inl e ↦ (record { used = used; found = Full }, c, full d none e)
-                  | inr l ↦ (grown (used + 1) (used + 2), putRecord c used flag low high, new d none l)
+                  | inl e ↦ (record { used = used; found = Full }, c, full d absent e)
+                  | inr l ↦ (grown (used + 1) (used + 2), putRecord c used flag low high, new d absent l)
                 ]
           ]
     ]
