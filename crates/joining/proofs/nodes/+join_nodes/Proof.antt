@@ -79,7 +79,7 @@ pub +join-nodes-spec : {M : Type 1} → statement M
     let k = c .before .before .before .before .before .before .level .ensures in
     let (_, from, less, _, _) = top (p .1) (p .2) (p .3) _ down e (v .flag-at .ensures) in
     let (f, g) = low-from (p .1) (p .2) (p .3) _ down e (v .flag-at .ensures) (c .before .before .before .before .both-branches .ensures .0) (c .before .before .both-branches2 .ensures .0) k in
-    (omega (arith, s .0, from, less, k), (p .0, p .1, f, g)))
+    (omega (arith, s .0, from, less, k), (omega (arith, p .0), p .1, f, g)))
     (λ c. search needs)
     (λ c. search needs)
     (λ c κs.
