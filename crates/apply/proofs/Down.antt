@@ -11,7 +11,7 @@ use Rattle.rule.specs.Table.{cofactor}
 use Rattle.rule.specs.Level.{nodesOf}
 use Rattle.rule.specs.Order.{flags, level}
 use Rattle.rule.specs.Cells.{flagAt, recordOf}
-use Rattle.rule.specs.Diagram.{tableOf}
+use Rattle.rule.specs.Walk.{tableOf}
 use Rattle.theory.specs.Child.{child}
 use Rattle.theory.specs.Level.{levelOf}
 use Rattle.theory.proofs.Sets.{Order}

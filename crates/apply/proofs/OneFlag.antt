@@ -9,7 +9,7 @@ use native.Mathlib.Omega.{arith}
 use lib.ListN.{length, getD}
 use Rattle.rule.specs.Bits.{bit, setBit}
 use Rattle.rule.specs.Table.{cofactor, depends}
-use Rattle.rule.specs.Diagram.{tableOf}
+use Rattle.rule.specs.Walk.{tableOf}
 use Rattle.rule.specs.Results.{constantTable, flagTable}
 use Rattle.theory.proofs.Bits.{bit-same, bit-other, setBit-lt}
 use Rattle.theory.proofs.Cofactor.{length-cofactor, cofactor-row, not-depends}

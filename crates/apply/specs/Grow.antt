@@ -6,9 +6,9 @@ use mathlib.Core.List.{List}
 use Prim.Native.Nat.{ℕ, _+_, _≤_}
 use Rattle.rule.specs.Level.{nodesOf}
 use Rattle.rule.specs.Order.{flags, fitOrder}
-use Rattle.rule.specs.Cells.{room}
+use Rattle.rule.specs.Cells.{mostRecords, room}
 use Rattle.theory.specs.Level.{levelOf}
-use Rattle.theory.specs.Sound.{Sound}
+use Rattle.theory.specs.Shape.{Shaped}
 use Rattle.arguments.specs.declared.level.Levels.{Levels}
 use Rattle.arguments.specs.Level.{Turned}
 use Rattle.unique.specs.declared.node.Grown.{Grown}
@@ -19,8 +19,8 @@ use Rattle.unique.specs.Search.{Grew}
 pub record Ready (l : Levels) (c : List ℕ) (used : ℕ) (index : List ℕ) : Type 0 where
   pub turned : Turned l
   pub order-fits : fitOrder (l .n) (l .order .places) ≡ true
-  pub is-sound : Sound (l .n) (l .order .places) c used
-  pub small : room c ≤ 1024
+  pub is-sound : Shaped (l .n) (l .order .places) c used
+  pub small : room c ≤ mostRecords
   pub indexed : Indexed c used index
 
 -- a node of the store that asks no flag before level `at`

@@ -7,19 +7,18 @@ use native.Mathlib.Omega.{arith}
 use lib.ListN.{length, getD, take}
 use lib.Seq.{take-all}
 use Rattle.rule.specs.Bits.{setBit}
-use Rattle.rule.specs.Table.{cofactor}
+use Rattle.rule.specs.Table.{cofactor, restrict}
 use Rattle.rule.specs.Level.{nodesOf}
 use Rattle.rule.specs.Order.{flags, level}
-use Rattle.rule.specs.Diagram.{tableOf}
+use Rattle.rule.specs.Walk.{tableOf}
 use Rattle.theory.proofs.Bits.{bit-same, bit-other, setBit-lt}
 use Rattle.theory.proofs.Cofactor.{row-lt}
 use Rattle.theory.proofs.Sets.{Order}
 use Rattle.theory.proofs.Orders.{order-length, fit-order-is}
 use Rattle.theory.proofs.Perm.{Exactly}
 use Rattle.theory.proofs.Levels.{place-flag, place-level, place-before, place-next}
-use Rattle.theory.specs.Restrict.{restrict}
-use Rattle.theory.specs.Sound.{Sound}
-use Rattle.theory.proofs.Sound.{sound-view, view-sound}
+use Rattle.theory.specs.Shape.{Shaped}
+use Rattle.theory.proofs.Sound.{sound-shape, shape-sound}
 use Rattle.theory.proofs.Walks.{walk-end, length-table, table-row, rows-eq}
 use Rattle.theory.proofs.Canonical.{level-end}
 use Rattle.theory.proofs.Nodes.{fixings-free}
@@ -40,7 +39,7 @@ module _ {n at row used : ℕ} {t order c : List ℕ} (g : Drawing n t order at 
       let v = row-lt t (g .bits) row in
       let whole : take at (flags n order) ≡ flags n order = take-all at (flags n order) (omega (arith, order-length n (flags n order) ord)) in
       record {
-        grows = grows-none (nodesOf (flags n order) (restrict (take at (flags n order)) row t)) (sound-view n order c used (g .is-sound));
+        grows = grows-none (nodesOf (flags n order) (restrict (take at (flags n order)) row t)) (sound-shape n order c used (g .is-sound));
         is = record {
           node = omega arith;
           table = rw whole
@@ -87,7 +86,7 @@ module _ {n at row used : ℕ} {t order c : List ℕ} (g : Drawing n t order at 
         (λ i m. bit-other row (getD order at 0) i b k (λ q. omega (arith, place-level order ord h, fixed .sound i m .1, ap (level (flags n order)) q))))
 
     -- what a branch is given, in the cells as they have grown
-    branch-drawing : (b x : ℕ) → b < 2 → x ≡ setBit row (getD order at 0) b → {d : List ℕ} {more : ℕ} → length d ≡ length c → Sound n order d more
+    branch-drawing : (b x : ℕ) → b < 2 → x ≡ setBit row (getD order at 0) b → {d : List ℕ} {more : ℕ} → length d ≡ length c → Shaped n order d more
         → Drawing n t order (at + 1) x d more
     branch-drawing b x k e {d} {more} l s =
         record {
@@ -97,12 +96,12 @@ module _ {n at row used : ℕ} {t order c : List ℕ} (g : Drawing n t order at 
           order-fits = g .order-fits;
           level = omega arith;
           row-fits = rw e (setBit-lt n row (getD order at 0) b (g .row-fits) flag-lt k);
-          is-sound = view-sound n order d more s;
+          is-sound = shape-sound n order d more s;
           small = omega (arith, g .small);
         }
 
     pub first : (x : ℕ) → x ≡ setBit row (getD order at 0) 0 → Drawing n t order (at + 1) x c used
-    first x e = branch-drawing 0 x (omega arith) e refl (sound-view n order c used (g .is-sound))
+    first x e = branch-drawing 0 x (omega arith) e refl (sound-shape n order c used (g .is-sound))
 
     pub second : (x y : ℕ) → y ≡ setBit row (getD order at 0) 1 → {r : Grown} {d : List ℕ} → Draw n t order (at + 1) x c used r d
         → Drawing n t order (at + 1) y d (r .used)

@@ -11,12 +11,14 @@ use borrow.Author.Tests.{ne-eqb}
 use Rattle.rule.specs.Level.{nodesOf, size}
 use Rattle.rule.specs.Order.{flags}
 use Rattle.rule.specs.Cells.{room}
-use Rattle.rule.specs.Diagram.{tableOf, diagram}
+use Rattle.rule.specs.Walk.{tableOf}
+use Rattle.rule.specs.Diagram.{diagram}
 use Rattle.rule.specs.Results.{rootBy}
 use Rattle.theory.proofs.Member.{In}
 use Rattle.theory.proofs.Sets.{Order}
 use Rattle.theory.proofs.Orders.{fit-order-is}
-use Rattle.theory.proofs.Sound.{view-sound, sound-cleared}
+use Rattle.theory.proofs.Shape.{shape-cleared}
+use Rattle.theory.proofs.Sound.{sound-cleared}
 use Rattle.theory.proofs.Walks.{smaller, walk-end, table-row}
 use Rattle.theory.proofs.Reach.{Diagram, all-reached, view-diagram, root-last}
 use Rattle.theory.proofs.Counting.{node-reached, used-size}
@@ -38,7 +40,7 @@ start {n} {t} {order} {c} f =
       order-fits = f .order-fits;
       level = omega arith;
       row-fits = pow-pos n;
-      is-sound = view-sound n order (replicate (length c) 0) 0 (sound-cleared n order (length c));
+      is-sound = sound-cleared n order (length c);
       small = omega (arith, f .lent, length-replicate {A = ℕ} (length c) 0);
     }
 
@@ -92,7 +94,7 @@ module _ {n : ℕ} {t order c : List ℕ} (f : Fits n t order c) where
     exceeds =
         omega (
           arith,
-          unsettled (record { n = n; places = order; used = 0 }) (sound-cleared n order (length c)) ord a refl .exceeds,
+          unsettled (record { n = n; places = order; used = 0 }) (shape-cleared n order (length c)) ord a refl .exceeds,
           needed-size n order (replicate (length c) 0) 0 t,
           length-replicate {A = ℕ} (length c) 0,
         )

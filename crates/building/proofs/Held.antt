@@ -11,7 +11,7 @@ use Rattle.rule.specs.Level.{size, nodesOf}
 use Rattle.rule.specs.Order.{flags}
 use Rattle.rule.specs.Cells.{mostCells, room}
 use Rattle.rule.proofs.Zeros.{zeros, take-zeros}
-use Rattle.theory.specs.Restrict.{restrict}
+use Rattle.rule.specs.Table.{restrict}
 use Rattle.unique.specs.declared.node.Grown.{Grown}
 use Rattle.unique.specs.declared.node.Found.{Found}
 use Rattle.unique.specs.declared.node.Found.the-variants.{At, Full}

@@ -5,11 +5,11 @@ use mathlib.Core.Bool.{true}
 use mathlib.Core.List.{List}
 use Prim.Native.Nat.{ℕ, _^_, _≤_, _<_}
 use lib.ListN.{length, take}
-use Rattle.rule.specs.Table.{fitRows}
+use Rattle.rule.specs.Table.{fitRows, restrict}
 use Rattle.rule.specs.Level.{nodesOf}
 use Rattle.rule.specs.Order.{flags, fitOrder}
-use Rattle.rule.specs.Cells.{room, sound}
-use Rattle.theory.specs.Restrict.{restrict}
+use Rattle.rule.specs.Cells.{mostRecords, room}
+use Rattle.rule.specs.Sound.{sound}
 use Rattle.unique.specs.declared.node.Grown.{Grown}
 use Rattle.unique.specs.Search.{Grew}
 
@@ -22,7 +22,7 @@ pub record Drawing (n : ℕ) (t order : List ℕ) (at row : ℕ) (c : List ℕ) 
   pub level : at ≤ n
   pub row-fits : row < 2 ^ n
   pub is-sound : sound n order c used ≡ true
-  pub small : room c ≤ 1024
+  pub small : room c ≤ mostRecords
 
 -- the node of the rule that is left where the flags before level `at` are fixed as in the row: the store has grown by nodes of that rule's own diagram, and it
 -- was found, or one of them is lacking

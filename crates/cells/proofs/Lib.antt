@@ -3,3 +3,4 @@ pub mod Copied
 pub mod Record
 pub mod Added
 pub mod Fit
+pub mod Laid

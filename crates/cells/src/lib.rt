@@ -3,14 +3,17 @@
 ghost use mathlib.Core.Path.{_≡_};
 ghost use Prim.Native.Nat.{_≤_, _<_};
 ghost use lib.ListN.{length};
-ghost use Rattle.rule.specs.Cells.{fitCells, room, flagAt, lowAt, highAt, restClear};
+ghost use Rattle.rule.specs.Cells.{fitCells, room, flagAt, lowAt, highAt};
+ghost use Rattle.rule.specs.Sound.{restClear};
 ghost use Rattle.cells.specs.Record.{putRecord, clearFrom};
 
 // The cells of a record.
-const WIDTH: usize = 3;
+pub const WIDTH: usize = 3;
 
-// The most cells that may be lent.
-pub const MOST: usize = 3072;
+// The most records that lent cells may hold, and their cells.
+pub const RECORDS: usize = 1024;
+
+pub const MOST: usize = RECORDS * WIDTH;
 
 // Whether the length of lent cells is a multiple of a record's width, and not too long (refusal 5).
 pub fn fit_cells(cells: &[u16]) -> bool

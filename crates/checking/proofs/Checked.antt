@@ -7,7 +7,8 @@ use Prim.Native.Nat.{ℕ, _+_, _≤_, _<_}
 use borrow.Author.Tests.{le-ltb, lt-ltb, le-leb, lt-leb}
 use lib.Dec.{ltb, leb}
 use Rattle.rule.specs.Order.{fitOrder}
-use Rattle.rule.specs.Cells.{fitCells, sound}
+use Rattle.rule.specs.Cells.{fitCells}
+use Rattle.rule.specs.Sound.{sound}
 use Rattle.rule.specs.Diagram.{allReached}
 use Rattle.rule.specs.Refusals.{refusal, flagCount, orderPlaces, cells, records, node, checkRows}
 use Rattle.rule.specs.Reply.{accepted, refused, reply}

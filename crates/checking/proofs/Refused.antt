@@ -7,7 +7,8 @@ use Prim.Native.Nat.{ℕ, _≤_}
 use borrow.Author.Tests.{ltb-false, not-false}
 use lib.Dec.{ltb}
 use Rattle.rule.specs.Order.{fitOrder}
-use Rattle.rule.specs.Cells.{fitCells, sound}
+use Rattle.rule.specs.Cells.{fitCells}
+use Rattle.rule.specs.Sound.{sound}
 use Rattle.rule.specs.Refusals.{Row, refusal, flagCount, orderPlaces, cells, records}
 use Rattle.theory.proofs.Refused.{row-passed}
 

@@ -6,7 +6,7 @@ use soundness::sound;
 ghost use mathlib.Core.Path.{_≡_};
 ghost use mathlib.Core.List.{[], _∷_};
 ghost use Prim.Native.Nat.{_+_, _≤_};
-ghost use Rattle.rule.specs.Cells.{room};
+ghost use Rattle.rule.specs.Cells.{mostRecords, room};
 ghost use Rattle.rule.specs.Diagram.{diagram};
 ghost use Rattle.rule.specs.Refusals.{refusal, flagCount, orderPlaces, cells as lentCells, records};
 ghost use Rattle.rule.specs.Answers.{countedReply};
@@ -61,7 +61,7 @@ pub fn check(n: u8, order: Order, cells: &[u16], used: u16, root: Node) -> Count
 
 // Whether the cells are a diagram of so many used records, from a root up to used + 1.
 pub fn is_diagram(n: u8, order: Order, cells: &[u16], used: u16, root: u16) -> bool
-    requires { ⌜ (n ≤ 10) × (room (now cells) ≤ 1024) × (root ≤ used + 1) ⌝ }
+    requires { ⌜ (n ≤ 10) × (room (now cells) ≤ mostRecords) × (root ≤ used + 1) ⌝ }
     ensures { λ r. ⌜ r ≡ diagram n (order .places) (now (cells .entry)) used root ⌝ }
 {
     let mut index = [0u16; unique::INDEX];

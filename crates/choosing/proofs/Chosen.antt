@@ -8,7 +8,7 @@ use native.Mathlib.Omega.{arith}
 use Rattle.rule.specs.Table.{cofactor}
 use Rattle.rule.specs.Order.{flags}
 use Rattle.rule.specs.Cells.{room, flagAt, recordOf}
-use Rattle.rule.specs.Diagram.{tableOf}
+use Rattle.rule.specs.Walk.{tableOf}
 use Rattle.rule.specs.Results.{chooseTable}
 use Rattle.theory.specs.Child.{child}
 use Rattle.theory.proofs.Walks.{length-table, length-tabled}

@@ -14,8 +14,9 @@ use lib.ListN.{length, drop, replicate, length-replicate}
 use Rattle.rule.specs.Bits.{below}
 use Rattle.rule.specs.Tests.{each, same}
 use Rattle.rule.specs.Order.{fitOrder}
-use Rattle.rule.specs.Cells.{fitCells, sound}
-use Rattle.rule.specs.Diagram.{tableOf}
+use Rattle.rule.specs.Cells.{fitCells}
+use Rattle.rule.specs.Walk.{tableOf}
+use Rattle.rule.specs.Sound.{sound}
 use Rattle.rule.specs.Results.{constantTable, Making, flag, join, choose, fix, rulesAmong, madeFrom, madeIn, needed, firstWith, madeNode}
 use Rattle.rule.specs.Refusals.{Row, refusal, openRows, constantRows, makingRows}
 use Rattle.rule.specs.Reply.{reply, Accepted, leaves}
@@ -25,7 +26,7 @@ use Rattle.rule.specs.Demands.{Agrees, AgreesThroughout}
 use Rattle.rule.proofs.Book.{refused-silent}
 use Rattle.theory.proofs.Tests.{and-split}
 use Rattle.theory.proofs.Bits.{below-in}
-use Rattle.theory.proofs.Sound.{view-sound, sound-cleared}
+use Rattle.theory.proofs.Sound.{sound-cleared}
 use Rattle.theory.proofs.Walks.{walk-end}
 use Rattle.theory.proofs.Refused.{row-passed}
 use Rattle.demands.proofs.Stands.{passed}
@@ -168,7 +169,7 @@ module _ (given : State) (c : List ℕ) where
         few = few;
         order-fits = o;
         lent = rw (length-replicate {A = ℕ} (length c) 0) (not-false _ f);
-        is-sound = view-sound (given .n) (given .places) (replicate (length c) 0) 0 (sound-cleared (given .n) (given .places) (length c));
+        is-sound = sound-cleared (given .n) (given .places) (length c);
         same-n = refl;
         rules = opened-rules (given .n) (replicate (length c) 0);
       }

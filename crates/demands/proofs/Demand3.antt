@@ -14,7 +14,7 @@ use Rattle.rule.specs.Table.{fitLength}
 use Rattle.rule.specs.Level.{size}
 use Rattle.rule.specs.Order.{flags, fitOrder, packed}
 use Rattle.rule.specs.Cells.{fitCells}
-use Rattle.rule.specs.Diagram.{walk, tableOf}
+use Rattle.rule.specs.Walk.{walk, tableOf}
 use Rattle.rule.specs.Refusals.{Row, refusal, tabulateRows, walkRows, packRows}
 use Rattle.rule.specs.Reply.{Reply, reply, numberOf, Accepted, leaves}
 use Rattle.rule.specs.Calls.{State, Tabulate, Walk, Pack}

@@ -12,7 +12,7 @@ use lib.ListN.{length, getD, take, replicate, length-append, length-replicate}
 use lib.Pow.{pow-mono}
 use Rattle.rule.specs.Bits.{setBit}
 use Rattle.rule.specs.Tests.{keep}
-use Rattle.rule.specs.Table.{fitLength, cofactor, depends, fixings}
+use Rattle.rule.specs.Table.{fitLength, cofactor, depends, fixings, restrict}
 use Rattle.rule.specs.Level.{distinct, levelNodes, levelCount, nodesFrom, nodesOf, size}
 use Rattle.rule.specs.Order.{flags}
 use Rattle.rule.specs.Cells.{mostCells, room, flagAt, lowAt, highAt}
@@ -22,8 +22,8 @@ use Rattle.theory.proofs.Tests.{length-keep}
 use Rattle.theory.proofs.Perm.{once-length}
 use Rattle.theory.proofs.Distinct.{distinct-in, distinct-once}
 use Rattle.theory.proofs.Orders.{order-length, fit-order-is}
+use Rattle.theory.proofs.Reach.{diagram-view}
 use Rattle.theory.proofs.Reduced.{diagram-reduced}
-use Rattle.theory.specs.Restrict.{restrict}
 use Rattle.unique.specs.declared.node.Grown.{Grown}
 use Rattle.unique.specs.declared.node.Found.{Found}
 use Rattle.unique.specs.declared.node.Found.the-variants.{At, Full}
@@ -186,5 +186,5 @@ exists n order t f =
     go used Full d a = absurd (omega (arith, exceeds fits a, size-few n order t f, length-replicate {A = ℕ} mostCells 0))
     go used (At root) d a =
         let x = filled fits a .draws in
-        let (o, r) = diagram-reduced n order d _ _ (x .is-diagram) in
+        let (o, r) = diagram-reduced n order d _ _ (diagram-view n order d _ _ (x .is-diagram)) in
         (d, _, _, record { ordered = o; reduced = r; table = x .table })

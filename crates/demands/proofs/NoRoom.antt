@@ -12,8 +12,9 @@ use Rattle.rule.specs.Bits.{below}
 use Rattle.rule.specs.Table.{fitLength, fitRows, tabled}
 use Rattle.rule.specs.Level.{size}
 use Rattle.rule.specs.Order.{places, flags, fitOrder, packed}
-use Rattle.rule.specs.Cells.{room, sound}
-use Rattle.rule.specs.Diagram.{tableOf}
+use Rattle.rule.specs.Cells.{room}
+use Rattle.rule.specs.Walk.{tableOf}
+use Rattle.rule.specs.Sound.{sound}
 use Rattle.rule.specs.Reduced.{DrawnAs}
 use Rattle.rule.specs.Results.{digit, Making, flag, join, choose, fix, madeIn, needed, free}
 use Rattle.rule.specs.Refusals.{Row, refusal, flagCount, tableLength, tableRead, orderPlaces, cells, records, workspace, buildRows, ownRows, makingRows, packRows}
@@ -23,7 +24,7 @@ use Rattle.rule.specs.Demands.{Fit, NoRoomFor}
 use Rattle.theory.proofs.Tests.{and-split, in-each}
 use Rattle.theory.proofs.Bits.{bit-lt}
 use Rattle.theory.proofs.Cofactor.{length-cofactor, row-lt, cofactor-rows}
-use Rattle.theory.proofs.Sound.{sound-view}
+use Rattle.theory.proofs.Sound.{sound-shape}
 use Rattle.theory.proofs.Walks.{smaller, length-tabled, length-table, fit-table}
 use Rattle.theory.proofs.Orders.{fit-order-is, packed-fewest}
 use Rattle.demands.proofs.Stands.{Passed}
@@ -97,7 +98,7 @@ cond-lt false a b p q = q
 
 -- each row of the table of a store's node is below 2
 node-rows : (s : State) (c : List ℕ) (m : ℕ) → sound (s .n) (s .places) c (s .used) ≡ true → ltb (s .used + 1) m ≡ false → fitRows (tableOf (s .n) c m) ≡ true
-node-rows s c m x h = fit-table (smaller (sound-view (s .n) (s .places) c (s .used) x)) (s .n) m (ltb-false (s .used + 1) m h)
+node-rows s c m x h = fit-table (smaller (sound-shape (s .n) (s .places) c (s .used) x)) (s .n) m (ltb-false (s .used + 1) m h)
 
 -- what a call makes of rules that are there
 made : (s : State) (c : List ℕ) (x : Making) → sound (s .n) (s .places) c (s .used) ≡ true → Passed (ownRows (s .n) (s .used) x) → Made (s .n) (madeIn (s .n) c x)

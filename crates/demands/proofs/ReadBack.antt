@@ -13,10 +13,10 @@ use lib.Seq.{length-take-le, take-at, drop-append-add}
 use Rattle.rule.specs.Bits.{bit, below}
 use Rattle.rule.specs.Tests.{each}
 use Rattle.rule.specs.Order.{places, flags, inPlaces, rising, fitOrder}
-use Rattle.rule.specs.Cells.{fitCells, room}
+use Rattle.rule.specs.Cells.{fitCells, room, RecordValues, laidIn}
 use Rattle.rule.specs.Diagram.{diagram}
 use Rattle.rule.specs.Refusals.{Row}
-use Rattle.rule.specs.Files.{flagsBit, orderBit, labelBit, recordsBit, yesBit, longestLabel, countSize, recordSize, FileRecord, two, twoAt, recordAt, recordBytes, Part, bytesOf, noPart, fileMap, printable, bitIf, ifSome, mapByte, Reading, stop, go, andThen, unless, fieldIf, nothingRead, readMap, readFlags, readOrder, readLabel, readRecords, rootRead, laidIn, readEnd, reading}
+use Rattle.rule.specs.Files.{flagsBit, orderBit, labelBit, recordsBit, yesBit, longestLabel, countSize, recordSize, two, twoAt, recordAt, recordBytes, Part, bytesOf, noPart, fileMap, printable, bitIf, ifSome, mapByte, Reading, stop, go, andThen, unless, fieldIf, nothingRead, readMap, readFlags, readOrder, readLabel, readRecords, rootRead, readEnd, reading}
 use Rattle.cursor.proofs.Head.{flags-read}
 use Rattle.fields.proofs.Fields.{order-read, label-read, records-many, records-read}
 use Rattle.encoding.proofs.Puts.{length-bytes}
@@ -58,7 +58,7 @@ root-back l (suc k) root (f, g) = sym (f (omega arith))
 -- ---- the fields
 
 -- a file read so far
-abbrev pub soFar : ℕ → List ℕ → Part → List FileRecord → ℕ → Reading
+abbrev pub soFar : ℕ → List ℕ → Part → List RecordValues → ℕ → Reading
 soFar n o label rs at = record { n = n; places = o; label = label; records = rs; at = at }
 
 -- where a label is read
@@ -69,7 +69,7 @@ labelAt at (a ∷ l) = record { start = at + 1; size = length (a ∷ l) }
 abbrev labelField : List ℕ → List ℕ
 labelField l = ifSome (length l) (length l ∷ l)
 
-abbrev recordField : List FileRecord → List ℕ
+abbrev recordField : List RecordValues → List ℕ
 recordField rs = ifSome (length rs) (two (length rs) ++ recordBytes rs)
 
 -- the label's bytes
@@ -97,7 +97,7 @@ module _ (file : List ℕ) (n : ℕ) (o p : List ℕ) (at : ℕ) (front : length
       label-read file (soFar n o noPart [] at) (omega arith) (λ z. omega arith) (omega arith) (omega arith) (sym fits) refl ∙ rw (size, end)
 
   -- where there are records
-  module _ (r : FileRecord) (rs : List FileRecord) (e : file ≡ p ++ recordField (r ∷ rs)) where
+  module _ (r : RecordValues) (rs : List RecordValues) (e : file ≡ p ++ recordField (r ∷ rs)) where
     counted : length (r ∷ rs) ≡ twoAt file at
     counted = rw e (sym (two-at p (length (r ∷ rs)) (recordBytes (r ∷ rs)) at (sym front)))
 
@@ -105,7 +105,7 @@ module _ (file : List ℕ) (n : ℕ) (o p : List ℕ) (at : ℕ) (front : length
     ended = rw e (simp length-append (omega arith))
 
   module _ (c : List ℕ) (label : Part) where
-    records-back : (rs : List FileRecord) → file ≡ p ++ recordField rs → length rs ≤ room c
+    records-back : (rs : List RecordValues) → file ≡ p ++ recordField rs → length rs ≤ room c
         → fieldIf (bitIf (length rs) 1) (readRecords c file) (soFar n o label [] at) ≡ go (soFar n o label rs (at + length (recordField rs)))
     records-back [] e h = rw add-zero
     records-back (r ∷ rs) e h =
@@ -119,7 +119,7 @@ module _ (file : List ℕ) (n : ℕ) (o p : List ℕ) (at : ℕ) (front : length
         records-read c file (soFar n o label [] at) (omega arith) (counted r rs e) (λ z. omega arith) h (omega arith) ∙ rw (records, end)
 
     -- and no room for them
-    records-short : (rs : List FileRecord) → file ≡ p ++ recordField rs → room c < length rs
+    records-short : (rs : List RecordValues) → file ≡ p ++ recordField rs → room c < length rs
         → fieldIf (bitIf (length rs) 1) (readRecords c file) (soFar n o label [] at) ≡ stop 10
     records-short [] e h = absurd (omega arith)
     records-short (r ∷ rs) e h =
@@ -128,7 +128,7 @@ module _ (file : List ℕ) (n : ℕ) (o p : List ℕ) (at : ℕ) (front : length
 -- ---- the whole file
 
 -- a rule that the writer takes, by its records, and its file
-pub record Taken (n root : ℕ) (o l : List ℕ) (rs : List FileRecord) (file : List ℕ) : Type 0 where
+pub record Taken (n root : ℕ) (o l : List ℕ) (rs : List RecordValues) (file : List ℕ) : Type 0 where
   pub few : n ≤ 10
   pub ten : length o ≡ places
   pub fit : fitOrder n o ≡ true
@@ -136,7 +136,7 @@ pub record Taken (n root : ℕ) (o l : List ℕ) (rs : List FileRecord) (file : 
   pub print : each printable l ≡ true
   pub bytes : file ≡ mapByte l (length rs) root ∷ n ∷ (flags n o ++ (labelField l ++ recordField rs))
 
-module _ {n root : ℕ} {o l : List ℕ} {rs : List FileRecord} {file : List ℕ} (t : Taken n root o l rs file) where
+module _ {n root : ℕ} {o l : List ℕ} {rs : List RecordValues} {file : List ℕ} (t : Taken n root o l rs file) where
   front : length (flags n o) ≡ n
   front = length-take-le n o (omega arith)
 

@@ -10,11 +10,12 @@ use lib.ListN.{length, getD, replicate, length-append, length-replicate}
 use lib.Seq.{length-take-le}
 use Rattle.rule.specs.Bits.{bit}
 use Rattle.rule.specs.Order.{fitOrder}
-use Rattle.rule.specs.Cells.{fitCells}
-use Rattle.rule.specs.Diagram.{tableOf, diagram}
+use Rattle.rule.specs.Cells.{fitCells, recordCells, laidIn}
+use Rattle.rule.specs.Walk.{tableOf}
+use Rattle.rule.specs.Diagram.{diagram}
 use Rattle.rule.specs.Refusals.{Row, refusal}
 use Rattle.rule.specs.Reply.{Reply}
-use Rattle.rule.specs.Files.{flagsBit, orderBit, labelBit, recordsBit, Reading, count, Outcome, stop, go, andThen, readOr, unless, fieldIf, readMap, readFlags, readOrder, readLabel, readRecords, rootRead, recordCells, laidIn, readEnd, reading, readNumber, readValues, readCells, Reads}
+use Rattle.rule.specs.Files.{flagsBit, orderBit, labelBit, recordsBit, Reading, count, Outcome, stop, go, andThen, readOr, unless, fieldIf, readMap, readFlags, readOrder, readLabel, readRecords, rootRead, readEnd, reading, readNumber, readValues, readCells, Reads}
 use Rattle.rule.specs.Demands.{StandsFor, Gives}
 use Rattle.theory.proofs.Refused.{numbered}
 use Rattle.theory.proofs.Orders.{rising-fit}

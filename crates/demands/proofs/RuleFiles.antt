@@ -11,22 +11,21 @@ use borrow.Author.Tests.{ltb-false, le-ltb, not-false}
 use lib.ListN.{length, getD, take, drop}
 use lib.Seq.{take-at}
 use Rattle.rule.specs.Order.{places}
-use Rattle.rule.specs.Cells.{fitCells, room}
+use Rattle.rule.specs.Cells.{fitCells, room, laidIn, recordsIn}
 use Rattle.rule.specs.Diagram.{diagram}
 use Rattle.rule.specs.Refusals.{refusal}
 use Rattle.rule.specs.Reply.{Reply, numberOf, leaves}
-use Rattle.rule.specs.Files.{longestLabel, go, rootRead, laidIn, reading, readNumber, Reads, recordsIn, mapByte, fileOf, writeRows, Writes}
+use Rattle.rule.specs.Files.{longestLabel, go, rootRead, reading, readNumber, Reads, mapByte, fileOf, writeRows, Writes}
 use Rattle.rule.specs.Demands.{Gives, WrittenAs, labelRead, RuleFiles}
 use Rattle.theory.proofs.Bits.{length-below}
-use Rattle.theory.specs.Sound.{Sound}
+use Rattle.theory.specs.Shape.{Shaped}
 use Rattle.theory.proofs.Reach.{diagram-view}
-use Rattle.encoding.specs.Record.{recordIn}
+use Rattle.rule.specs.Cells.{recordIn}
 use Rattle.laying.proofs.Held.{reading-unfit}
-use Rattle.laying.proofs.Laid.{laid-length}
+use Rattle.cells.proofs.Laid.{laid-length, laid-at, laid-same}
 use Rattle.demands.proofs.Stands.{accepted-reply, passed, none-applies, passed-diagram, diagram-passed}
 use Rattle.demands.proofs.Reader.{read-diagram}
 use Rattle.demands.proofs.Canonical.{root-last}
-use Rattle.demands.proofs.FileBytes.{laid-at, laid-same}
 use Rattle.demands.proofs.SameCells.{records-same, diagram-same}
 use Rattle.demands.proofs.ReadBack.{Taken, soFar, labelAt, root-back, map-is, label-is, reading-back, reading-short}
 
@@ -71,7 +70,7 @@ module _ {n used root : ℕ} {order c label file : List ℕ} (x : Written n used
   long : length (recordsIn c used) ≡ used
   long = length-below (recordIn c) used
 
-  cells-sound : Sound n order c used
+  cells-sound : Shaped n order c used
   cells-sound = diagram-view n order c used root (x .is-diagram) .cells
 
   module _ {cells d : List ℕ} {r : Reply} (b : Reads file cells r d) (lent : fitCells cells ≡ true) (held : used ≤ room cells) where

@@ -12,18 +12,18 @@ use Rattle.rule.specs.Table.{cofactor, depends}
 use Rattle.rule.specs.Level.{nodesOf}
 use Rattle.rule.specs.Order.{flags, level}
 use Rattle.rule.specs.Cells.{flagAt}
-use Rattle.rule.specs.Diagram.{tableOf}
+use Rattle.rule.specs.Walk.{tableOf}
 use Rattle.rule.specs.Reduced.{DrawnAs}
 use Rattle.rule.specs.Demands.{Fit, Matches}
 use Rattle.theory.proofs.Member.{In}
 use Rattle.theory.proofs.Orders.{fit-order-is}
 use Rattle.theory.proofs.Sets.{Order}
-use Rattle.theory.specs.Sound.{Sound}
+use Rattle.theory.specs.Shape.{Shaped}
 use Rattle.theory.proofs.Canonical.{level-record, record-low, record-high, asks, depends-asks}
 use Rattle.theory.proofs.Counting.{record-node, node-record}
 use Rattle.demands.proofs.Counts.{drawn-diagram}
 
-module _ {n used : ℕ} {order c : List ℕ} (s : Sound n order c used) (o : Order n (flags n order)) where
+module _ {n used : ℕ} {order c : List ℕ} (s : Shaped n order c used) (o : Order n (flags n order)) where
   -- of the flags up to its own in the order a record's table depends on that one alone
   first-asked : (v k : ℕ) → v < n → k < used → level (flags n order) v ≤ level (flags n order) (flagAt c k) → depends v (tableOf n c (k + 2)) ≡ true
       → flagAt c k ≡ v
@@ -31,7 +31,7 @@ module _ {n used : ℕ} {order c : List ℕ} (s : Sound n order c used) (o : Ord
       let e : k + 2 - 2 ≡ k = omega arith in
       sym (ap (flagAt c) e) ∙ depends-asks s o v (k + 2) (omega arith) hv (omega (arith, level-record n order c k)) d .1
 
-module _ {n used more : ℕ} {order c d : List ℕ} (s : Sound n order c used) (z : Sound n order d more) (o : Order n (flags n order)) where
+module _ {n used more : ℕ} {order c d : List ℕ} (s : Shaped n order c used) (z : Shaped n order d more) (o : Order n (flags n order)) where
   -- records of one table ask one flag
   same-flag : (k j : ℕ) → k < used → j < more → tableOf n d (j + 2) ≡ tableOf n c (k + 2) → flagAt d j ≡ flagAt c k
   same-flag k j h l e =

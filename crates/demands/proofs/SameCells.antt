@@ -6,9 +6,8 @@ use mathlib.Core.List.{List}
 use Prim.Native.Nat.{ℕ, zero, suc, _+_, _*_, _≤_}
 use lib.Dec.{eqb}
 use lib.ListN.{getD}
-use Rattle.rule.specs.Cells.{width, room, flagAt, lowAt, highAt, recordOf, isEnd}
+use Rattle.rule.specs.Cells.{width, room, flagAt, lowAt, highAt, recordOf, isEnd, recordsIn}
 use Rattle.rule.specs.Diagram.{reachIn, diagram}
-use Rattle.rule.specs.Files.{recordsIn}
 use Rattle.theory.proofs.Reach.{diagram-view, view-diagram}
 
 module _ (c d : List ℕ) (same : (i : ℕ) → getD d i 0 ≡ getD c i 0) where

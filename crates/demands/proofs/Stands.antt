@@ -11,17 +11,19 @@ use lib.ListN.{length}
 use Rattle.rule.specs.Table.{fitLength}
 use Rattle.rule.specs.Level.{size}
 use Rattle.rule.specs.Order.{places, flags, fitOrder, inPlaces, packed}
-use Rattle.rule.specs.Cells.{fitCells, sound}
-use Rattle.rule.specs.Diagram.{tableOf, allReached, diagram}
+use Rattle.rule.specs.Cells.{fitCells}
+use Rattle.rule.specs.Walk.{tableOf}
+use Rattle.rule.specs.Sound.{sound}
+use Rattle.rule.specs.Diagram.{allReached, diagram}
+use Rattle.rule.specs.Results.{rootBy}
 use Rattle.rule.specs.Refusals.{Row, refusal, buildRows, checkRows, tabulateRows, packRows}
 use Rattle.rule.specs.Reply.{Reply, reply, Accepted, leaves}
-use Rattle.rule.specs.Results.{rootBy}
 use Rattle.rule.specs.Calls.{Draws, DrawsOr, Build, Check, Pack}
 use Rattle.rule.specs.Files.{writeRows, Writes}
 use Rattle.rule.specs.Demands.{StandsFor, Gives}
 use Rattle.theory.proofs.Tests.{and-split, and-join}
 use Rattle.theory.proofs.Reach.{diagram-view}
-use Rattle.theory.proofs.Sound.{view-sound}
+use Rattle.theory.proofs.Sound.{shape-sound}
 use Rattle.theory.proofs.Reduced.{diagram-reduced}
 use Rattle.theory.proofs.Refused.{numbered, row-passed}
 use Rattle.theory.proofs.Orders.{packed-fit, packed-flags}
@@ -57,13 +59,13 @@ module _ (n : ℕ) (order c : List ℕ) (used root : ℕ) (few : n ≤ 10) (o : 
         eq-eqb (length bytes) (2 ^ n) l,
         o,
         f,
-        view-sound n order c used (v .cells),
+        shape-sound n order c used (v .cells),
         le-ltb (used + 1) root (v .root-is),
       )
 
   pub stands : StandsFor n order (tableOf n c root) c used root
   stands =
-      let (p, q) = diagram-reduced n order c used root d in
+      let (p, q) = diagram-reduced n order c used root (diagram-view n order c used root d) in
       record {
         drawn = record { ordered = p; reduced = q; table = refl };
         tabulates = λ bytes after r l x.

@@ -13,8 +13,9 @@ use Rattle.rule.specs.Bits.{below}
 use Rattle.rule.specs.Table.{depends}
 use Rattle.rule.specs.Level.{nodesOf}
 use Rattle.rule.specs.Order.{flags, level}
-use Rattle.rule.specs.Cells.{sound, flagAt, lowAt, highAt, recordOf}
-use Rattle.rule.specs.Diagram.{tableOf}
+use Rattle.rule.specs.Cells.{flagAt, lowAt, highAt, recordOf}
+use Rattle.rule.specs.Walk.{tableOf}
+use Rattle.rule.specs.Sound.{sound}
 use Rattle.rule.specs.Results.{recordTables, needed}
 use Rattle.rule.specs.Demands.{Fit}
 use Rattle.theory.proofs.Member.{In, cast, in-map, map-in}
@@ -24,8 +25,8 @@ use Rattle.theory.proofs.Orders.{fit-order-is}
 use Rattle.theory.proofs.Sets.{Order}
 use Rattle.theory.proofs.Levels.{level-lt}
 use Rattle.theory.specs.Level.{levelOf}
-use Rattle.theory.specs.Sound.{Sound}
-use Rattle.theory.proofs.Sound.{sound-view, view-sound}
+use Rattle.theory.specs.Shape.{Shaped}
+use Rattle.theory.proofs.Sound.{sound-shape, shape-sound}
 use Rattle.theory.proofs.Walks.{node, smaller, table-kept}
 use Rattle.theory.proofs.Canonical.{level-end, level-record, child-later, mix, table-mix, canonical, asks, depends-asks}
 use Rattle.theory.proofs.Counting.{record-node}
@@ -37,7 +38,7 @@ use Rattle.demands.proofs.Counts.{drawn-diagram}
 use Rattle.demands.proofs.Exists.{exists}
 
 -- a node stands later than a flag if a node of the same table does, in whichever cells
-later : {n most more : ℕ} {order e d : List ℕ} → Sound n order e most → Sound n order d more → Order n (flags n order) → (v m p : ℕ) → v < n
+later : {n most more : ℕ} {order e d : List ℕ} → Shaped n order e most → Shaped n order d more → Order n (flags n order) → (v m p : ℕ) → v < n
     → m ≤ most + 1 → p ≤ more + 1 → tableOf n d p ≡ tableOf n e m → level (flags n order) v < levelOf n order e m
     → level (flags n order) v < levelOf n order d p
 later {n} {most} {more} {order} {e} {d} z s o v m p hv hm hp t l =
@@ -59,13 +60,13 @@ later {n} {most} {more} {order} {e} {d} z s o v m p hv hm hp t l =
 
 -- the cells d keep the older nodes of c and hold the end nodes and the first j records of e; what they have more is called for
 record Holds (n : ℕ) (order c : List ℕ) (used : ℕ) (goal : List (List ℕ)) (e : List ℕ) (j : ℕ) (d : List ℕ) (more : ℕ) : Type 0 where
-  is-sound : Sound n order d more
+  is-sound : Shaped n order d more
   grown : used ≤ more
   kept : (k : ℕ) → k ≤ used + 1 → tableOf n d k ≡ tableOf n c k
   has : (m : ℕ) → m ≤ j + 1 → (p : ℕ) × (p ≤ more + 1) × (tableOf n d p ≡ tableOf n e m)
   within : (k : ℕ) → used ≤ k → k < more → In (tableOf n d (k + 2)) goal
 
-module _ {n used most : ℕ} {order c e : List ℕ} (goal : List (List ℕ)) (s : Sound n order c used) (z : Sound n order e most) (o : Order n (flags n order))
+module _ {n used most : ℕ} {order c e : List ℕ} (goal : List (List ℕ)) (s : Shaped n order c used) (z : Shaped n order e most) (o : Order n (flags n order))
     (called : (k : ℕ) → k < most → In (tableOf n e (k + 2)) goal) where
   holds-none : Holds n order c used goal e 0 c used
   holds-none =
@@ -131,7 +132,7 @@ module _ {n used most : ℕ} {order c e : List ℕ} (goal : List (List ℕ)) (s 
       added : Added d more (flagAt e j) low high next
       added = added-longer (flagAt e j) low high (x .is-sound .fits) (x .is-sound .clear)
 
-      next-sound : Sound n order next (more + 1)
+      next-sound : Shaped n order next (more + 1)
       next-sound = extended (x .is-sound) allowed added
 
       next-kept : (m : ℕ) → m ≤ more + 1 → tableOf n next m ≡ tableOf n d m
@@ -183,7 +184,7 @@ suffices n order t f c used sc =
     let (e, most, root, y) = exists n order t f in
     let z = drawn-diagram y in
     let (d, more, x) =
-    holds (nodesOf (flags n order) t) (sound-view n order c used sc) (z .cells) o
+    holds (nodesOf (flags n order) t) (sound-shape n order c used sc) (z .cells) o
     (λ k h. subst (λ (u : List ℕ). In (tableOf n e (k + 2)) (nodesOf (flags n order) u)) (y .table)
     (record-node (z .cells) o k root h (z .root-is) (z .reached k h))) most (omega arith) in
     let (m, hm, tm) = x .has root (z .root-is) in
@@ -192,11 +193,11 @@ suffices n order t f c used sc =
     o : Order n (flags n order)
     o = fit-order-is n order (f .order-fits)
 
-    whole : (d : List ℕ) (more m : ℕ) → Sound n order d more → used ≤ more → ((k : ℕ) → k ≤ used + 1 → tableOf n d k ≡ tableOf n c k)
+    whole : (d : List ℕ) (more m : ℕ) → Shaped n order d more → used ≤ more → ((k : ℕ) → k ≤ used + 1 → tableOf n d k ≡ tableOf n c k)
         → ((k : ℕ) → used ≤ k → k < more → In (tableOf n d (k + 2)) (nodesOf (flags n order) t)) → m ≤ more + 1 → tableOf n d m ≡ t
         → (d : List ℕ) × (m : ℕ) × (sound n order d (used + needed n order c used t) ≡ true) × ((k : ℕ) → k ≤ used + 1 → tableOf n d k ≡ tableOf n c k)
         × (m ≤ used + needed n order c used t + 1) × (tableOf n d m ≡ t)
     whole d more m s le kept called hm tm =
         let is : more ≡ used + needed n order c used t =
         omega (arith, needed-least c s o le kept t m hm tm, needed-most c s o le kept t called) in
-        (d, m, subst (λ (k : ℕ). sound n order d k ≡ true) is (view-sound n order d more s), kept, omega arith, tm)
+        (d, m, subst (λ (k : ℕ). sound n order d k ≡ true) is (shape-sound n order d more s), kept, omega arith, tm)

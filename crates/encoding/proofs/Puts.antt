@@ -5,11 +5,12 @@ use mathlib.Core.List.{List, [], _∷_, _++_}
 use Prim.Native.Nat.{ℕ, zero, suc, _+_, _*_, _≤_}
 use native.Mathlib.Omega.{arith}
 use lib.ListN.{length}
-use Rattle.rule.specs.Files.{recordSize, FileRecord, inBytes, ifSome, recordBytes, recordsIn}
+use Rattle.rule.specs.Cells.{RecordValues, recordsIn}
+use Rattle.rule.specs.Files.{recordSize, inBytes, ifSome, recordBytes}
 use Rattle.theory.proofs.Bits.{below-more, length-below}
 use Rattle.runs.specs.Run.{Puts}
 use Rattle.runs.proofs.Puts.{puts-more}
-use Rattle.encoding.specs.Record.{recordIn}
+use Rattle.rule.specs.Cells.{recordIn}
 
 -- ---- what stands only where there is something
 
@@ -22,12 +23,12 @@ some-long k l d = ap length (sym (some-list k l d))
 
 -- ---- the bytes of records
 
-pub length-bytes : (rs : List FileRecord) → length (recordBytes rs) ≡ length rs * recordSize
+pub length-bytes : (rs : List RecordValues) → length (recordBytes rs) ≡ length rs * recordSize
 unfolding recordBytes
 length-bytes [] = refl
 length-bytes (r ∷ rs) = omega (arith, length-bytes rs)
 
-bytes-more : (rs : List FileRecord) (r : FileRecord) → recordBytes (rs ++ (r ∷ [])) ≡ recordBytes rs ++ inBytes r
+bytes-more : (rs : List RecordValues) (r : RecordValues) → recordBytes (rs ++ (r ∷ [])) ≡ recordBytes rs ++ inBytes r
 unfolding recordBytes
 bytes-more [] r = refl
 bytes-more (s ∷ rs) r = ap (λ (l : List ℕ). inBytes s ++ l) (bytes-more rs r)

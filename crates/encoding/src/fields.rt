@@ -5,8 +5,8 @@ use runs::put_run;
 ghost use mathlib.Core.List.{_∷_, _++_};
 ghost use Prim.Native.Nat.{ℕ, _+_, _≤_, _<_};
 ghost use lib.ListN.{length};
-ghost use Rattle.rule.specs.Cells.{room, flagAt};
-ghost use Rattle.rule.specs.Files.{longestLabel, two, recordBytes, recordsIn, ifSome};
+ghost use Rattle.rule.specs.Cells.{room, flagAt, recordsIn};
+ghost use Rattle.rule.specs.Files.{longestLabel, two, recordBytes, ifSome};
 ghost use Rattle.runs.specs.Run.{Puts};
 
 // Writes a label behind its length, or nothing for an empty one.

@@ -3,10 +3,10 @@ use runs::put_byte;
 use runs::put_run;
 ghost use Prim.Native.Nat.{ℕ, _+_, _*_, _≤_, _<_};
 ghost use lib.ListN.{length, take};
-ghost use Rattle.rule.specs.Cells.{room, flagAt};
-ghost use Rattle.rule.specs.Files.{recordSize, two, inBytes, recordBytes, recordsIn};
+ghost use Rattle.rule.specs.Cells.{room, flagAt, recordsIn};
+ghost use Rattle.rule.specs.Files.{recordSize, two, inBytes, recordBytes};
 ghost use Rattle.runs.specs.Run.{Puts};
-ghost use Rattle.encoding.specs.Record.{recordIn};
+ghost use Rattle.rule.specs.Cells.{recordIn};
 
 // Writes a number in two bytes, low byte first.
 pub fn put_two(bytes: &mut [u8], at: usize, x: u16) -> usize

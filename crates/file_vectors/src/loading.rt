@@ -6,8 +6,8 @@ use words::lent::each_byte_is;
 use words::lent::each_is;
 use words::print;
 
-// The cells that are lent at most: three more than the paper allows.
-pub const MOST: usize = 3075;
+// The cells that are lent at most: a record more than the paper allows.
+pub const MOST: usize = cells::MOST + cells::WIDTH;
 
 // What they are lent with.
 const JUNK: u16 = 7;
@@ -44,7 +44,7 @@ fn numbers(cells: &[u16]) {
 
 // The cells of so many records, and whether the others are 0.
 fn records(count: u16, cells: &[u16]) {
-    let end = count as usize * 3;
+    let end = count as usize * cells::WIDTH;
     print::text(b" cells");
     if cells.len() < end {
         print::too_long();

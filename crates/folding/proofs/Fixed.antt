@@ -6,8 +6,7 @@ use Prim.Native.Nat.{ℕ, zero, suc, _+_, _*_, _/_, _%_, _^_, _<_}
 use native.Mathlib.Omega.{arith}
 use lib.ListN.{length}
 use Rattle.rule.specs.Bits.{bit, from}
-use Rattle.rule.specs.Table.{cofactor, fixings}
-use Rattle.theory.specs.Restrict.{restrict}
+use Rattle.rule.specs.Table.{cofactor, fixings, restrict}
 use Rattle.theory.proofs.Member.{In, head, tail, eq-of-singleton}
 use Rattle.theory.proofs.Cofactor.{length-cofactor, cofactor-comm}
 use Rattle.theory.proofs.Friedman.{Flags, branch, unbranch}

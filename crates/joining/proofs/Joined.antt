@@ -9,7 +9,7 @@ use native.Mathlib.Omega.{arith}
 use Rattle.rule.specs.Table.{cofactor}
 use Rattle.rule.specs.Order.{flags}
 use Rattle.rule.specs.Cells.{room, flagAt, recordOf}
-use Rattle.rule.specs.Diagram.{walk, tableOf}
+use Rattle.rule.specs.Walk.{walk, tableOf}
 use Rattle.rule.specs.Results.{joinTable}
 use Rattle.theory.specs.Child.{child}
 use Rattle.theory.proofs.Canonical.{level-le}

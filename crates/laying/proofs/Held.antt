@@ -10,9 +10,9 @@ use borrow.Author.Tests.{lt-ltb, le-ltb, not-true, not-false}
 use lib.ListN.{length, getD, take, drop, replicate, length-append, length-replicate, length-drop}
 use lib.Seq.{take-at}
 use Rattle.rule.specs.Bits.{bit}
-use Rattle.rule.specs.Cells.{mostCells, fitCells, room}
+use Rattle.rule.specs.Cells.{mostRecords, mostCells, fitCells, room, RecordValues, recordCells, laidIn}
 use Rattle.rule.specs.Diagram.{diagram}
-use Rattle.rule.specs.Files.{yesBit, FileRecord, Reading, count, recordAt, stop, go, andThen, unless, readMap, rootRead, recordCells, laidIn, readEnd, reading}
+use Rattle.rule.specs.Files.{yesBit, Reading, count, recordAt, stop, go, andThen, unless, readMap, rootRead, readEnd, reading}
 use Rattle.rule.proofs.Zeros.{take-zeros}
 use Rattle.theory.proofs.Bits.{bit-lt, length-below}
 use Rattle.cells.proofs.Fit.{fit-length}
@@ -22,7 +22,7 @@ use Rattle.cursor.specs.Step.{readingOf, outcomeOf, mapRead}
 use Rattle.cursor.proofs.Stepped.{then-then, refused-stays, refused-alone}
 use Rattle.fields.specs.Fields.{Whole, fieldsRead}
 use Rattle.laying.specs.Aside.{Tested}
-use Rattle.laying.proofs.Laid.{laid-length}
+use Rattle.cells.proofs.Laid.{laid-length}
 
 -- ---- the fields
 
@@ -68,7 +68,7 @@ pub root-no : (m k : ℕ) {b : ℕ} → k ≡ 0 → b ≡ bit m yesBit → (b �
 root-no m k z e d = rw (z, ← e) (let few : bit m yesBit < 2 = bit-lt m yesBit in omega (arith, d))
 
 -- records laid in other cells of the same length
-laid-as : (c d : List ℕ) (rs : List FileRecord) → length d ≡ length c → laidIn d rs ≡ laidIn c rs
+laid-as : (c d : List ℕ) (rs : List RecordValues) → length d ≡ length c → laidIn d rs ≡ laidIn c rs
 laid-as c d rs e = ap (λ (k : ℕ). take k (recordCells rs ++ replicate k 0)) e
 
 module _ (c file : List ℕ) (x : Cursor) (whole : length file ≤ x .at) {m root : ℕ} (p : m ≡ getD file 0 0) (q : root ≡ rootRead m (x .count)) {held d : List ℕ} {a : Bool} (lent : length held ≡ length c) (t : Tested file x root held a d) where
@@ -91,15 +91,15 @@ module _ (c file : List ℕ) (x : Cursor) (whole : length file ≤ x .at) {m roo
 
 -- ---- the held cells
 
-pub most-held : {held : List ℕ} → held ≡ replicate 3072 0 → length held ≡ mostCells
-most-held e = ap length e ∙ length-replicate {A = ℕ} 3072 0
+pub most-held : {held : List ℕ} → held ≡ replicate mostCells 0 → length held ≡ mostCells
+most-held e = ap length e ∙ length-replicate {A = ℕ} mostCells 0
 
 pub whole-many : (c file : List ℕ) (x : Cursor) → Whole c file x → length (readingOf file x .records) ≤ room c
 whole-many c file x w = rw (length-below (recordAt file (x .records)) (x .count)) (w .held)
 
-module _ (c : List ℕ) (fit : fitCells c ≡ true) {held : List ℕ} (e : held ≡ replicate 3072 0) where
+module _ (c : List ℕ) (fit : fitCells c ≡ true) {held : List ℕ} (e : held ≡ replicate mostCells 0) where
   pub first-held : take (length c - 0) held ≡ replicate (length c) 0
-  first-held = rw (e, sub-zero) (take-zeros (length c) 3072 (fit-length c fit))
+  first-held = rw (e, sub-zero) (take-zeros (length c) mostCells (fit-length c fit))
 
   pub first-lent : length (take (length c - 0) held) ≡ length c
   first-lent = ap length first-held ∙ length-replicate {A = ℕ} (length c) 0
@@ -109,13 +109,13 @@ module _ (c : List ℕ) (fit : fitCells c ≡ true) {held : List ℕ} (e : held 
   held-whole w =
       record { few = w .few; reached = w .reached; label = w .label; records = w .records; held = omega (arith, w .held, first-lent) }
 
-  pub held-room : room (take (length c - 0) held) ≤ 1024
+  pub held-room : room (take (length c - 0) held) ≤ mostRecords
   held-room = omega (arith, first-lent, fit-length c fit)
 
   pub held-zeros : take (length c - 0) held ≡ replicate (length (take (length c - 0) held)) 0
   held-zeros = first-held ∙ ap (λ (k : ℕ). replicate k 0) (sym first-lent)
 
-  module _ (rs : List FileRecord) {d : List ℕ} (laid : d ≡ laidIn (take (length c - 0) held) rs) (h : length rs ≤ room c) where
+  module _ (rs : List RecordValues) {d : List ℕ} (laid : d ≡ laidIn (take (length c - 0) held) rs) (h : length rs ≤ room c) where
     laid-first : length d ≡ length c
     laid-first = ap length laid ∙ laid-length (take (length c - 0) held) rs (rw first-lent h) ∙ first-lent
 

@@ -5,9 +5,9 @@ use mathlib.Core.Bool.{Bool, true}
 use mathlib.Core.List.{List}
 use Prim.Native.Nat.{ℕ}
 use lib.ListN.{length, take}
-use Rattle.rule.specs.Cells.{mostCells, fitCells}
+use Rattle.rule.specs.Cells.{mostCells, fitCells, laidIn}
 use Rattle.rule.specs.Diagram.{diagram}
-use Rattle.rule.specs.Files.{laidIn, reading}
+use Rattle.rule.specs.Files.{reading}
 use Rattle.cursor.specs.declared.step.Cursor.{Cursor}
 use Rattle.cursor.specs.declared.step.Step.{Step}
 use Rattle.cursor.specs.Step.{readingOf, outcomeOf}

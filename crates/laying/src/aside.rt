@@ -9,7 +9,7 @@ use rule::YES_BIT;
 ghost use mathlib.Core.Path.{_≡_};
 ghost use Prim.Native.Nat.{_+_, _≤_, _<_};
 ghost use lib.ListN.{length, replicate};
-ghost use Rattle.rule.specs.Cells.{room};
+ghost use Rattle.rule.specs.Cells.{mostCells, mostRecords, room};
 ghost use Rattle.rule.specs.Files.{rootRead};
 ghost use Rattle.fields.specs.Fields.{Whole};
 ghost use Rattle.laying.specs.Aside.{Tested, ReadAside};
@@ -30,7 +30,7 @@ pub fn root_of(map: u16, count: u16) -> Node
 
 // Lays a file's records in cells that are 0, and tells whether they are a diagram there.
 fn lay_diagram(file: &[u8], cursor: Cursor, root: u16, held: &mut [u16]) -> bool
-    requires { ⌜ Whole (now held) (now file) cursor × (room (now held) ≤ 1024) × (now held ≡ replicate (length (now held)) 0) × (root ≤ cursor .count + 1) ⌝ }
+    requires { ⌜ Whole (now held) (now file) cursor × (room (now held) ≤ mostRecords) × (now held ≡ replicate (length (now held)) 0) × (root ≤ cursor .count + 1) ⌝ }
     ensures { λ r. ⌜ Tested (now (file .entry)) cursor root (now (held .entry)) r (now (held .exit)) ⌝ }
 {
     let start = cursor.records;
@@ -43,7 +43,7 @@ fn lay_diagram(file: &[u8], cursor: Cursor, root: u16, held: &mut [u16]) -> bool
 
 // The file read and tested: 5, its fields, 11 for bytes left over, then 6. Where nothing is refused, its records lie in the first of `held`.
 pub fn read_aside(file: &[u8], cells: &[u16], held: &mut [u16]) -> Step
-    requires { ⌜ now held ≡ replicate 3072 0 ⌝ }
+    requires { ⌜ now held ≡ replicate mostCells 0 ⌝ }
     ensures { λ r. ⌜ ReadAside (now (cells .entry)) (now (file .entry)) (now (held .exit)) r ⌝ }
 {
     if !cells::fit_cells(cells) {

@@ -5,8 +5,8 @@ ghost use mathlib.Core.List.{map};
 ghost use Prim.Native.Nat.{_+_, _*_, _≤_};
 ghost use lib.ListN.{length, replicate};
 ghost use Rattle.rule.specs.Bits.{below};
-ghost use Rattle.rule.specs.Cells.{room};
-ghost use Rattle.rule.specs.Files.{recordSize, recordAt, laidIn};
+ghost use Rattle.rule.specs.Cells.{room, laidIn};
+ghost use Rattle.rule.specs.Files.{recordSize, recordAt};
 
 // Lays so many records, that start at a place of the file, in cells that are 0.
 pub fn lay(file: &[u8], start: usize, count: u16, cells: &mut [u16])

@@ -14,7 +14,7 @@ use Rattle.rule.specs.Tests.{each}
 use Rattle.rule.specs.Table.{fitLength, fitRows}
 use Rattle.rule.specs.Level.{size}
 use Rattle.rule.specs.Order.{flags, inPlaces, packed}
-use Rattle.rule.specs.Cells.{fitCells, room}
+use Rattle.rule.specs.Cells.{mostCells, fitCells, room}
 use Rattle.rule.specs.Diagram.{asking}
 use Rattle.rule.specs.Refusals.{refusal, packRows}
 use Rattle.rule.specs.Reply.{accepted, refused}
@@ -65,7 +65,7 @@ module _ (line : List ℕ) {k : ℕ} (e : k ≡ refusal (lineRows line)) where
 pub rows-few : (n : ℕ) (t : List ℕ) → n ≤ 10 → length t ≡ 2 ^ n → length t < 65536
 rows-few n t few e = let m : 2 ^ n ≤ 2 ^ 10 = pow-mono few in omega arith
 
-module _ (n : ℕ) (t c w : List ℕ) (few : n ≤ 10) (rows : length t ≡ 2 ^ n) (bits : fitRows t ≡ true) (cs : length c ≡ 3072) (ws : length w ≡ workspaceCells) where
+module _ (n : ℕ) (t c w : List ℕ) (few : n ≤ 10) (rows : length t ≡ 2 ^ n) (bits : fitRows t ≡ true) (cs : length c ≡ mostCells) (ws : length w ≡ workspaceCells) where
   fit : Fit n (inPlaces (packed n t)) t
   unfolding fitLength
   fit =

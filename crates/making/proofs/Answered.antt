@@ -16,7 +16,7 @@ use Rattle.rule.specs.Answers.{madeReply}
 use Rattle.rule.specs.Calls.{State, withUsed, Make}
 use Rattle.theory.proofs.Refused.{numbered, passed-more}
 use Rattle.theory.proofs.Orders.{fit-order-is}
-use Rattle.theory.proofs.Sound.{sound-view}
+use Rattle.theory.proofs.Sound.{sound-shape}
 use Rattle.arguments.specs.declared.level.Levels.{Levels}
 use Rattle.arguments.specs.Level.{Turned}
 use Rattle.unique.specs.declared.node.Grown.{Grown}
@@ -73,7 +73,7 @@ module _ (s : State) (c : List ℕ) (x : Making) where
           record {
             turned = turned;
             order-fits = rw (e, f) (lent .ordered);
-            is-sound = rw (e, f) (sound-view (s .n) (s .places) c (s .used) (lent .is-sound));
+            is-sound = rw (e, f) (sound-shape (s .n) (s .places) c (s .used) (lent .is-sound));
             small = fit-room c (lent .lent);
             indexed = t .indexed z;
           }
@@ -110,7 +110,7 @@ module _ (s : State) (c : List ℕ) (x : Making) where
           go : (f : Found) → p .found ≡ f → Concludes f d (s .used) (p .used) r e → Make s c x (madeReply (r .answer)) (withUsed s (r .used)) e
           go (At m) q (used, answer, cells) =
               rw (used, answer, cells)
-              (made (settled s (sound-view (s .n) (s .places) c (s .used) (lent .is-sound)) (fit-order-is (s .n) (s .places) (lent .ordered)) grew q))
+              (made (settled s (sound-shape (s .n) (s .places) c (s .used) (lent .is-sound)) (fit-order-is (s .n) (s .places) (lent .ordered)) grew q))
           go Full q (used, answer, cells) =
-              let u = unsettled s (sound-view (s .n) (s .places) c (s .used) (lent .is-sound)) (fit-order-is (s .n) (s .places) (lent .ordered)) grew q in
+              let u = unsettled s (sound-shape (s .n) (s .places) c (s .used) (lent .is-sound)) (fit-order-is (s .n) (s .places) (lent .ordered)) grew q in
               rw (used, answer, cells, u .cleared) (no-room u)

@@ -6,7 +6,7 @@ use Prim.Native.Nat.{ℕ, zero, suc, _+_, _*_}
 use native.Mathlib.Omega.{arith}
 use lib.ListN.{length, getD, drop}
 use lib.Seq.{getD-drop, drop-drop}
-use Rattle.rule.specs.Diagram.{walk}
+use Rattle.rule.specs.Walk.{walk}
 use Rattle.rule.specs.Results.{madeIn, madeNode}
 use Rattle.rule.specs.Refusals.{refusal, openRows, constantRows, makingRows, tabulateRows, walkRows}
 use Rattle.rule.specs.Reply.{Reply, reply, numberOf}

@@ -10,7 +10,7 @@ use native.Mathlib.Omega.{arith}
 use borrow.Author.Tests.{lt-ltb, le-ltb}
 use lib.ListN.{length, getD, set, replicate, length-set, length-replicate}
 use lib.Seq.{getD-set-same, getD-set-other}
-use Rattle.rule.specs.Cells.{lowAt, highAt, recordOf}
+use Rattle.rule.specs.Cells.{mostRecords, lowAt, highAt, recordOf}
 use Rattle.rule.proofs.Zeros.{zero-at}
 use Rattle.theory.proofs.Walks.{node}
 use Rattle.reach.specs.Mark.{mark, IsChild, Marked}
@@ -43,11 +43,11 @@ mark-is l m h k =
     at i g (no d) =
         (λ x. inl (sym (getD-set-other l i k 1 0 d) ∙ x), ⊎-elim (λ x. getD-set-other l i k 1 0 d ∙ x) (λ (x : i + 2 ≡ k + 2). absurd (d (omega arith))))
 
-pub marked-none : (c : List ℕ) → Marked c 0 (replicate 1024 0)
+pub marked-none : (c : List ℕ) → Marked c 0 (replicate mostRecords 0)
 marked-none c =
     record {
-      lent = length-replicate {A = ℕ} 1024 0;
-      is = λ k. (λ e. let q : _≡_ {A = ℕ} 0 1 = sym (zero-at 1024 k) ∙ e in absurd (omega arith), λ (_, (j, h, _)). absurd (omega arith));
+      lent = length-replicate {A = ℕ} mostRecords 0;
+      is = λ k. (λ e. let q : _≡_ {A = ℕ} 0 1 = sym (zero-at mostRecords k) ∙ e in absurd (omega arith), λ (_, (j, h, _)). absurd (omega arith));
     }
 
 -- the children of one record more
@@ -62,7 +62,7 @@ marked-more {c} {marks} {j} {low} {high} x e f l h =
     second : (k : ℕ) → (getD (mark (mark marks low) high) k 0 ≡ 1) ↔ ((getD (mark marks low) k 0 ≡ 1) ⊎ (high ≡ k + 2))
     second = mark-is (mark marks low) high (omega (arith, length-mark marks low, x .lent))
 
-    to : (k : ℕ) → getD (mark (mark marks low) high) k 0 ≡ 1 → (k < 1024) × IsChild c (j + 1) k
+    to : (k : ℕ) → getD (mark (mark marks low) high) k 0 ≡ 1 → (k < mostRecords) × IsChild c (j + 1) k
     to k m =
         elim (second k .0 m) [
           | inl a ↦
@@ -73,7 +73,7 @@ marked-more {c} {marks} {j} {low} {high} x e f l h =
           | inr a ↦ (omega arith, (j, omega arith, inr (sym f ∙ a)))
         ]
 
-    from : (k : ℕ) → (k < 1024) × IsChild c (j + 1) k → getD (mark (mark marks low) high) k 0 ≡ 1
+    from : (k : ℕ) → (k < mostRecords) × IsChild c (j + 1) k → getD (mark (mark marks low) high) k 0 ≡ 1
     from k (g, (i, q, p)) =
         ⊎-elim
         (λ (z : i ≡ j).

@@ -11,11 +11,12 @@ use lib.Dec.{eqb}
 use lib.ListN.{getD}
 use Rattle.rule.specs.Bits.{below}
 use Rattle.rule.specs.Tests.{each}
-use Rattle.rule.specs.Cells.{childrenSmaller}
+use Rattle.rule.specs.Cells.{mostRecords}
+use Rattle.rule.specs.Sound.{childrenSmaller}
 use Rattle.rule.specs.Diagram.{allReached}
 use Rattle.theory.proofs.Tests.{each-below, below-each}
-use Rattle.theory.proofs.Sound.{children-smaller}
-use Rattle.theory.specs.Sound.{Smaller}
+use Rattle.theory.proofs.Shape.{children-smaller}
+use Rattle.theory.specs.Shape.{Smaller}
 use Rattle.theory.proofs.Reach.{root-last, reached-parents, reached-by-parents}
 use Rattle.reach.specs.Mark.{Marked}
 
@@ -43,7 +44,7 @@ module _ (c : List ℕ) (used : ℕ) (small : childrenSmaller c used ≡ true) w
     reached-short g h = same-bool _ _ (λ e. absurd (false≢true e)) (λ e. let q = root-last smaller root (omega arith) g e in absurd (omega arith))
 
     -- from the last record, all are reached where each other is marked for a child
-    pub reached-last : {marks : List ℕ} → Marked c used marks → used ≤ 1024 → 0 < used → root ≡ used + 1
+    pub reached-last : {marks : List ℕ} → Marked c used marks → used ≤ mostRecords → 0 < used → root ≡ used + 1
         → each (λ k. eqb (getD marks k 0) 1) (below (used - 1)) ≡ allReached c used root
     reached-last {marks} m few g e =
         same-bool _ _

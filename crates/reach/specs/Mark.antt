@@ -6,7 +6,7 @@ use mathlib.Core.Bool.{cond}
 use mathlib.Core.List.{List}
 use Prim.Native.Nat.{ℕ, _+_, _<_}
 use lib.ListN.{length, getD, set}
-use Rattle.rule.specs.Cells.{lowAt, highAt, recordOf, isEnd}
+use Rattle.rule.specs.Cells.{mostRecords, lowAt, highAt, recordOf, isEnd}
 
 -- the marks with that of a node's record; an end node has none
 unfoldable pub mark : List ℕ → ℕ → List ℕ
@@ -18,5 +18,5 @@ IsChild c used k = (j : ℕ) × (j < used) × ((lowAt c j ≡ k + 2) ⊎ (highAt
 
 -- the marked records are the children of the first `used` records
 pub record Marked (c : List ℕ) (used : ℕ) (marks : List ℕ) : Type 0 where
-  pub lent : length marks ≡ 1024
-  pub is : (k : ℕ) → (getD marks k 0 ≡ 1) ↔ ((k < 1024) × IsChild c used k)
+  pub lent : length marks ≡ mostRecords
+  pub is : (k : ℕ) → (getD marks k 0 ≡ 1) ↔ ((k < mostRecords) × IsChild c used k)

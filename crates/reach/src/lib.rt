@@ -6,12 +6,13 @@ ghost use lib.Dec.{eqb};
 ghost use lib.ListN.{getD, replicate};
 ghost use Rattle.rule.specs.Bits.{below};
 ghost use Rattle.rule.specs.Tests.{each};
-ghost use Rattle.rule.specs.Cells.{room, childrenSmaller};
+ghost use Rattle.rule.specs.Cells.{mostRecords, room};
+ghost use Rattle.rule.specs.Sound.{childrenSmaller};
 ghost use Rattle.rule.specs.Diagram.{allReached};
 ghost use Rattle.reach.specs.Mark.{mark, Marked};
 
 // One mark for each record.
-const MARKS: usize = 1024;
+const MARKS: usize = cells::RECORDS;
 
 // Marks the record of a node. An end node has none.
 fn mark(marks: &mut [u8; MARKS], node: u16)
@@ -25,7 +26,7 @@ fn mark(marks: &mut [u8; MARKS], node: u16)
 
 // Marks each record that is the child of a used one.
 fn mark_children(cells: &[u16], used: u16, marks: &mut [u8; MARKS])
-    requires { ⌜ (used ≤ room (now cells)) × (room (now cells) ≤ 1024) × (childrenSmaller (now cells) used ≡ true) × (now marks ≡ replicate 1024 0) ⌝ }
+    requires { ⌜ (used ≤ room (now cells)) × (room (now cells) ≤ mostRecords) × (childrenSmaller (now cells) used ≡ true) × (now marks ≡ replicate mostRecords 0) ⌝ }
     ensures { λ _. ⌜ Marked (now (cells .entry)) used (now (marks .exit)) ⌝ }
 {
     let mut j: u16 = 0;
@@ -38,7 +39,7 @@ fn mark_children(cells: &[u16], used: u16, marks: &mut [u8; MARKS])
 
 // Whether each record below `last` is marked.
 fn all_marked(marks: &[u8; MARKS], last: u16) -> bool
-    requires { ⌜ last ≤ 1024 ⌝ }
+    requires { ⌜ last ≤ mostRecords ⌝ }
     ensures { λ r. ⌜ r ≡ each (λ k. eqb (getD (now (marks .entry)) k 0) 1) (below last) ⌝ }
 {
     let mut k: u16 = 0;
@@ -54,7 +55,7 @@ fn all_marked(marks: &[u8; MARKS], last: u16) -> bool
 // Whether every used record can be reached from the root: the root is the last one, and every other is
 // some record's child, where children stand before their parents.
 pub fn all_reached(cells: &[u16], used: u16, root: u16) -> bool
-    requires { ⌜ (used ≤ room (now cells)) × (room (now cells) ≤ 1024) × (childrenSmaller (now cells) used ≡ true) × (root ≤ used + 1) ⌝ }
+    requires { ⌜ (used ≤ room (now cells)) × (room (now cells) ≤ mostRecords) × (childrenSmaller (now cells) used ≡ true) × (root ≤ used + 1) ⌝ }
     ensures { λ r. ⌜ r ≡ allReached (now (cells .entry)) used root ⌝ }
 {
     if used == 0 {

@@ -5,8 +5,9 @@ use mathlib.Core.List.{List, _∷_}
 use Prim.Native.Nat.{ℕ, _-_}
 use native.Mathlib.Nat.{sub-zero}
 use lib.ListN.{length, getD, take, replicate}
-use Rattle.rule.specs.Files.{recordAt, stop, go, rootRead, laidIn, reading, Reads, labelOf, noPart}
+use Rattle.rule.specs.Cells.{laidIn}
 use Rattle.rule.specs.Reply.{accepted, refused}
+use Rattle.rule.specs.Files.{recordAt, stop, go, rootRead, reading, Reads, labelOf, noPart}
 use Rattle.theory.proofs.Refused.{refused-reply}
 use Rattle.theory.proofs.Bits.{length-below}
 use Rattle.cursor.specs.declared.step.Step.{Step}

@@ -11,8 +11,10 @@ use lib.ListN.{length, take, replicate}
 use Rattle.rule.specs.Tests.{among}
 use Rattle.rule.specs.Level.{size}
 use Rattle.rule.specs.Order.{flags, inPlaces, packed}
-use Rattle.rule.specs.Cells.{width, sound}
-use Rattle.rule.specs.Diagram.{walk, tableOf, diagram}
+use Rattle.rule.specs.Cells.{width}
+use Rattle.rule.specs.Walk.{walk, tableOf}
+use Rattle.rule.specs.Sound.{sound}
+use Rattle.rule.specs.Diagram.{diagram}
 use Rattle.rule.specs.Results.{Making, flag, join, choose, fix, madeIn, lacking, needed, rootBy, madeNode}
 use Rattle.rule.specs.Refusals.{refusal, buildRows, checkRows, walkRows, tabulateRows, openRows, constantRows, makingRows, packRows}
 use Rattle.rule.specs.Reply.{Reply, reply, leaves}

@@ -1,21 +1,22 @@
--- Records in lent cells, and sound cells (document 01, "Tables, orders, nodes").
+-- Records in lent cells: the one place that says how wide a record is and where its values stand (document 01, "Tables, orders, nodes").
 -- Assumes nothing.
-use mathlib.Core.Bool.{Bool, not, _&&_, _||_}
-use mathlib.Core.List.{List, [], _∷_}
+use mathlib.Core.Bool.{Bool, _&&_}
+use mathlib.Core.List.{List, [], _∷_, _++_, map}
 use Prim.Native.Nat.{ℕ, _+_, _-_, _*_, _/_, _%_}
 use lib.Dec.{eqb, leb, ltb}
-use lib.ListN.{length, getD, drop}
+use lib.ListN.{length, getD, take, replicate}
 use Rattle.rule.specs.Bits.{below}
-use Rattle.rule.specs.Tests.{each}
-use Rattle.rule.specs.Order.{flags, level}
 
 -- "Record k, from 0, is node k+2: three 16-bit cells"
 abbrev pub width : ℕ
 width = 3
 
--- the most cells that may be lent
+-- the most cells that may be lent, those of so many records: "above 3,072"
+abbrev pub mostRecords : ℕ
+mostRecords = 1024
+
 abbrev pub mostCells : ℕ
-mostCells = 3072
+mostCells = mostRecords * width
 
 -- what refusal 5 tests: "length no multiple of 3, or above 3,072"
 unfoldable pub fitCells : List ℕ → Bool
@@ -39,6 +40,28 @@ highAt c k = getD c (k * width + 2) 0
 abbrev pub inCells : ℕ → ℕ → ℕ → List ℕ
 inCells flag low high = flag ∷ low ∷ high ∷ []
 
+-- a record's values, by themselves
+pub record RecordValues : Type 0 where
+  pub flag : ℕ
+  pub low : ℕ
+  pub high : ℕ
+
+-- records in cells, one behind the other
+unfoldable pub recordCells : List RecordValues → List ℕ
+recordCells [] = []
+recordCells (r ∷ rs) = inCells (r .flag) (r .low) (r .high) ++ recordCells rs
+
+-- records in lent cells: "Cells past an accepted result are 0"
+abbrev pub laidIn : List ℕ → List RecordValues → List ℕ
+laidIn c rs = take (length c) (recordCells rs ++ replicate (length c) 0)
+
+-- record k of lent cells, and the used ones
+abbrev pub recordIn : List ℕ → ℕ → RecordValues
+recordIn c k = record { flag = flagAt c k; low = lowAt c k; high = highAt c k }
+
+abbrev pub recordsIn : List ℕ → ℕ → List RecordValues
+recordsIn c used = map (λ k. recordIn c k) (below used)
+
 -- the record of a node from 2 on
 abbrev pub recordOf : ℕ → ℕ
 recordOf m = m - 2
@@ -46,49 +69,3 @@ recordOf m = m - 2
 -- an end node: 0 "no", 1 "yes"
 abbrev pub isEnd : ℕ → Bool
 isEnd m = ltb m 2
-
--- ---- sound cells: n flags, the order's flags in a list, the cells, the used records
-
--- "each flag is below n"
-unfoldable pub flagsBelow : ℕ → List ℕ → ℕ → Bool
-flagsBelow n c used = each (λ k. ltb (flagAt c k) n) (below used)
-
--- "low and high differ"
-unfoldable pub childrenDiffer : List ℕ → ℕ → Bool
-childrenDiffer c used = each (λ k. not (eqb (lowAt c k) (highAt c k))) (below used)
-
--- "and are smaller than the record's own node number"
-unfoldable pub childrenSmaller : List ℕ → ℕ → Bool
-childrenSmaller c used = each (λ k. ltb (lowAt c k) (k + 2) && ltb (highAt c k) (k + 2)) (below used)
-
--- an end node, or a record that asks a flag standing later in the order than v
-unfoldable pub asksLater : List ℕ → List ℕ → ℕ → ℕ → Bool
-asksLater order c v m = isEnd m || ltb (level order v) (level order (flagAt c (recordOf m)))
-
--- "a child that is a record asks a flag standing later in the order"
-unfoldable pub childrenLater : List ℕ → List ℕ → ℕ → Bool
-childrenLater order c used =
-    each (λ k. asksLater order c (flagAt c k) (lowAt c k) && asksLater order c (flagAt c k) (highAt c k)) (below used)
-
--- records j and k are equal: the same flag, low and high
-unfoldable pub sameRecord : List ℕ → ℕ → ℕ → Bool
-sameRecord c j k = eqb (flagAt c j) (flagAt c k) && (eqb (lowAt c j) (lowAt c k) && eqb (highAt c j) (highAt c k))
-
--- "no two used records are equal"
-unfoldable pub noneEqual : List ℕ → ℕ → Bool
-noneEqual c used = each (λ k. each (λ j. not (sameRecord c j k)) (below k)) (below used)
-
--- "every cell past the used records is 0"
-unfoldable pub restClear : List ℕ → ℕ → Bool
-restClear c used = each (eqb 0) (drop (used * width) c)
-
--- the cells hold the used records and nothing else: no more than there is room for, and 0 past them
-unfoldable pub laid : List ℕ → ℕ → Bool
-laid c used = leb used (room c) && restClear c used
-
--- "Lent cells are sound when": all of these
-unfoldable pub sound : ℕ → List ℕ → List ℕ → ℕ → Bool
-sound n order c used =
-    laid c used
-    && (flagsBelow n c used
-    && (childrenDiffer c used && (childrenSmaller c used && (childrenLater (flags n order) c used && noneEqual c used))))

@@ -12,13 +12,15 @@ use lib.ListN.{length, getD, take}
 use Rattle.rule.specs.Table.{fitLength, fitRows}
 use Rattle.rule.specs.Level.{levelCount, size}
 use Rattle.rule.specs.Order.{places, flags, fitOrder, askedBefore}
-use Rattle.rule.specs.Cells.{fitCells, room, sound, flagAt, lowAt, highAt}
-use Rattle.rule.specs.Diagram.{tableOf, diagram, asking}
+use Rattle.rule.specs.Cells.{fitCells, room, flagAt, lowAt, highAt, laidIn, recordsIn}
+use Rattle.rule.specs.Walk.{tableOf}
+use Rattle.rule.specs.Sound.{sound}
+use Rattle.rule.specs.Diagram.{diagram, asking}
 use Rattle.rule.specs.Reduced.{DrawnAs}
 use Rattle.rule.specs.Results.{Making, madeIn, needed}
 use Rattle.rule.specs.Reply.{Reply, accepted, numberOf, Accepted}
 use Rattle.rule.specs.Calls.{State, Build, Check, Tabulates, Tabulate, Walk, Make, Pack}
-use Rattle.rule.specs.Files.{bytesOf, reading, laidIn, labelOf, Reads, recordsIn, Writes}
+use Rattle.rule.specs.Files.{bytesOf, reading, labelOf, Reads, Writes}
 use Rattle.rule.specs.History.{Call, Calls, Fed, feed, Opens, BeginsOpen, Book, inBook, enter, bookOf}
 
 -- n flags in a fit order, and a fit table of theirs

@@ -1,31 +1,14 @@
--- Walks, the table of a node, reach and diagrams (document 01, "Tables, orders, nodes").
+-- Reach and diagrams (document 01, "Tables, orders, nodes").
 -- Assumes nothing.
-use mathlib.Core.Bool.{Bool, cond, true, false, _&&_, _||_}
+use mathlib.Core.Bool.{Bool, true, false, _&&_, _||_}
 use mathlib.Core.List.{List}
 use Prim.Native.Nat.{ℕ, zero, suc, _+_}
 use lib.Dec.{eqb, leb}
 use lib.ListN.{length}
-use Rattle.rule.specs.Bits.{bit, below}
+use Rattle.rule.specs.Bits.{below}
 use Rattle.rule.specs.Tests.{each, keep}
-use Rattle.rule.specs.Table.{tabled}
-use Rattle.rule.specs.Cells.{flagAt, lowAt, highAt, recordOf, isEnd, sound}
-
--- the node that a walk comes to from record k: "takes low or high by the row"
-unfoldable pub step : List ℕ → ℕ → ℕ → ℕ
-step c k row = cond (eqb (bit row (flagAt c k)) 0) (lowAt c k) (highAt c k)
-
--- a walk of at most `steps` steps from node m: "takes low or high by the row until an end node"
-unfoldable pub walkIn : ℕ → List ℕ → ℕ → ℕ → ℕ
-walkIn zero c m row = m
-walkIn (suc steps) c m row = elim (isEnd m) [ true ↦ m | false ↦ walkIn steps c (step c (recordOf m) row) row ]
-
--- "A walk starts at the root": from node m, and hands back the answer. Children are smaller, so m steps are enough.
-abbrev pub walk : List ℕ → ℕ → ℕ → ℕ
-walk c m row = walkIn m c m row
-
--- the table of a node: its walk's answer in each row
-abbrev pub tableOf : ℕ → List ℕ → ℕ → List ℕ
-tableOf n c m = tabled n (walk c m)
+use Rattle.rule.specs.Cells.{flagAt, lowAt, highAt, recordOf, isEnd}
+use Rattle.rule.specs.Sound.{sound}
 
 -- node m can be reached from `top` in at most `steps` steps
 unfoldable pub reachIn : ℕ → List ℕ → ℕ → ℕ → Bool

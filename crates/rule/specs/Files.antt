@@ -10,7 +10,7 @@ use denote.Ref.{RefT, ptr, now}
 use Rattle.rule.specs.Bits.{bit, below}
 use Rattle.rule.specs.Tests.{each}
 use Rattle.rule.specs.Order.{flags, inPlaces, rising}
-use Rattle.rule.specs.Cells.{room, flagAt, lowAt, highAt, inCells}
+use Rattle.rule.specs.Cells.{room, RecordValues, laidIn, recordsIn}
 use Rattle.rule.specs.Diagram.{diagram}
 use Rattle.rule.specs.Refusals.{Row, refusal, flagCount, orderPlaces, cells, diagramRecords, node, result}
 use Rattle.rule.specs.Reply.{Reply, reply, leaves}
@@ -55,17 +55,11 @@ two x = x % 256 ∷ x / 256 ∷ []
 abbrev pub twoAt : List ℕ → ℕ → ℕ
 twoAt bytes i = getD bytes i 0 + 256 * getD bytes (i + 1) 0
 
--- a record as a file has it
-pub record FileRecord : Type 0 where
-  pub flag : ℕ
-  pub low : ℕ
-  pub high : ℕ
-
 -- "five bytes each: flag, low (two), high (two), low byte first": a record's bytes, and record k of those that start at a place of the file
-abbrev pub inBytes : FileRecord → List ℕ
+abbrev pub inBytes : RecordValues → List ℕ
 inBytes r = r .flag ∷ two (r .low) ++ two (r .high)
 
-abbrev pub recordAt : List ℕ → ℕ → ℕ → FileRecord
+abbrev pub recordAt : List ℕ → ℕ → ℕ → RecordValues
 recordAt file start k =
     let at = start + k * recordSize in
     record { flag = getD file at 0; low = twoAt file (at + 1); high = twoAt file (at + 3) }
@@ -119,7 +113,7 @@ pub record Reading : Type 0 where
   pub n : ℕ
   pub places : List ℕ
   pub label : Part
-  pub records : List FileRecord
+  pub records : List RecordValues
   pub at : ℕ
 
 -- the record count
@@ -198,15 +192,6 @@ abbrev pub rootRead : ℕ → ℕ → ℕ
 rootRead map zero = bit map yesBit
 rootRead map (suc k) = suc k + 1
 
--- the records in cells, one behind the other
-unfoldable pub recordCells : List FileRecord → List ℕ
-recordCells [] = []
-recordCells (r ∷ rs) = inCells (r .flag) (r .low) (r .high) ++ recordCells rs
-
--- the records in the lent cells: "Cells past an accepted result are 0"
-abbrev pub laidIn : List ℕ → List FileRecord → List ℕ
-laidIn c rs = take (length c) (recordCells rs ++ replicate (length c) 0)
-
 -- "then 11 for bytes left over, then 6 for the records": so laid, they are a diagram or not
 unfoldable pub readEnd : List ℕ → List ℕ → Reading → Outcome
 readEnd c file x =
@@ -258,11 +243,8 @@ Label file c s = IsPart file (labelOf (reading c (now file))) s
 
 -- ---- the writer
 
--- the used records, and the bytes of records one behind the other
-abbrev pub recordsIn : List ℕ → ℕ → List FileRecord
-recordsIn c used = map (λ k. record { flag = flagAt c k; low = lowAt c k; high = highAt c k }) (below used)
-
-unfoldable pub recordBytes : List FileRecord → List ℕ
+-- the bytes of records one behind the other
+unfoldable pub recordBytes : List RecordValues → List ℕ
 recordBytes [] = []
 recordBytes (r ∷ rs) = inBytes r ++ recordBytes rs
 

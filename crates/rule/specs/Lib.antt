@@ -5,6 +5,8 @@ pub mod Level
 pub mod Order
 pub mod Sets
 pub mod Cells
+pub mod Walk
+pub mod Sound
 pub mod Diagram
 pub mod Reduced
 pub mod Results

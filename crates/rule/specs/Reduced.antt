@@ -5,8 +5,10 @@ use mathlib.Core.Bool.{true}
 use mathlib.Core.List.{List}
 use Prim.Native.Nat.{ℕ, _+_, _≤_, _<_}
 use Rattle.rule.specs.Order.{flags}
-use Rattle.rule.specs.Cells.{flagAt, lowAt, highAt, recordOf, flagsBelow, childrenSmaller, childrenLater, laid}
-use Rattle.rule.specs.Diagram.{allReached, tableOf}
+use Rattle.rule.specs.Cells.{flagAt, lowAt, highAt, recordOf}
+use Rattle.rule.specs.Walk.{tableOf}
+use Rattle.rule.specs.Sound.{flagsBelow, childrenSmaller, childrenLater, laid}
+use Rattle.rule.specs.Diagram.{allReached}
 
 -- "Two nodes of a decision diagram are equivalent if they are either (1) both terminals with the same value, or (2) both internal nodes having the same
 -- label and their left sons are equivalent and their right sons are equivalent."

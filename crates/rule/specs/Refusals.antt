@@ -9,7 +9,8 @@ use lib.ListN.{length}
 use Rattle.rule.specs.Table.{fitLength, fitRows}
 use Rattle.rule.specs.Level.{size}
 use Rattle.rule.specs.Order.{flags, fitOrder, packed}
-use Rattle.rule.specs.Cells.{fitCells, room, sound}
+use Rattle.rule.specs.Cells.{fitCells, room}
+use Rattle.rule.specs.Sound.{sound}
 use Rattle.rule.specs.Diagram.{allReached}
 use Rattle.rule.specs.Results.{Making, flag, join, choose, fix, rulesAmong, madeIn, needed, free}
 

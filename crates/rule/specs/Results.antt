@@ -11,7 +11,7 @@ use Rattle.rule.specs.Table.{tabled, cofactor}
 use Rattle.rule.specs.Level.{nodesOf}
 use Rattle.rule.specs.Order.{flags}
 use Rattle.rule.specs.Cells.{room}
-use Rattle.rule.specs.Diagram.{tableOf}
+use Rattle.rule.specs.Walk.{tableOf}
 
 -- "the constant"
 abbrev pub constantTable : ℕ → ℕ → List ℕ

@@ -5,7 +5,7 @@ use mathlib.Core.List.{List, [], _∷_, _++_, map}
 use Prim.Native.Nat.{ℕ, _^_}
 use lib.Dec.{eqb, ltb}
 use lib.ListN.{length, getD}
-use Rattle.rule.specs.Bits.{setBit, below}
+use Rattle.rule.specs.Bits.{bit, setBit, below}
 use Rattle.rule.specs.Tests.{each, same}
 
 -- "Its table has 2^n rows": the length that refusal 2 tests
@@ -32,3 +32,8 @@ depends v t = not (same (cofactor v 0 t) (cofactor v 1 t))
 unfoldable pub fixings : List ℕ → List ℕ → List (List ℕ)
 fixings [] t = t ∷ []
 fixings (i ∷ is) t = fixings is (cofactor i 0 t) ++ fixings is (cofactor i 1 t)
+
+-- the rule with each flag of a list fixed to the value that a row gives it
+unfoldable pub restrict : List ℕ → ℕ → List ℕ → List ℕ
+restrict [] row t = t
+restrict (v ∷ vs) row t = restrict vs row (cofactor v (bit row v) t)

@@ -12,7 +12,8 @@ use lib.Dec.{eqb, leb, ltb}
 use Rattle.rule.specs.Bits.{below}
 use Rattle.rule.specs.Tests.{each}
 use Rattle.rule.specs.Order.{flags}
-use Rattle.rule.specs.Cells.{room, flagAt, lowAt, highAt, flagsBelow, childrenDiffer, childrenSmaller, asksLater, childrenLater, sameRecord, noneEqual, restClear, laid, sound}
+use Rattle.rule.specs.Cells.{room, flagAt, lowAt, highAt}
+use Rattle.rule.specs.Sound.{flagsBelow, childrenDiffer, childrenSmaller, asksLater, childrenLater, sameRecord, noneEqual, restClear, laid, sound, shaped}
 use Rattle.theory.proofs.Tests.{and-split, below-each}
 use Rattle.theory.proofs.Scan.{fails-below}
 use Rattle.arguments.specs.declared.level.Levels.{Levels}
@@ -159,7 +160,7 @@ and-behind true false false = refl
 -- "sound" by one test of each used record
 module _ (n : ℕ) (order c : List ℕ) (used : ℕ) where
   sound-by : sound n order c used ≡ (leb used (room c) && (each (fitRecord n (flags n order) c) (below used) && restClear c used))
-  unfolding sound laid
+  unfolding sound shaped laid
   sound-by = rw all-parts (and-behind (leb used (room c)) (restClear c used) _)
 
   pub sound-full : {r : ℕ} → r ≡ room c → r < used → false ≡ sound n order c used

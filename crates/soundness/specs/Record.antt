@@ -6,7 +6,8 @@ use Prim.Native.Nat.{ℕ, _+_, _≤_, _<_}
 use lib.Dec.{eqb, ltb}
 use Rattle.rule.specs.Bits.{below}
 use Rattle.rule.specs.Tests.{each}
-use Rattle.rule.specs.Cells.{room, flagAt, lowAt, highAt, recordOf, asksLater, sameRecord}
+use Rattle.rule.specs.Cells.{mostRecords, room, flagAt, lowAt, highAt, recordOf}
+use Rattle.rule.specs.Sound.{asksLater, sameRecord}
 use Rattle.arguments.specs.declared.level.Levels.{Levels}
 use Rattle.arguments.specs.Level.{Turned}
 use Rattle.unique.specs.Index.{Indexed}
@@ -34,6 +35,6 @@ pub record Child (levels : Levels) (c : List ℕ) (v m : ℕ) : Type 0 where
 pub record Next (levels : Levels) (c : List ℕ) (k : ℕ) (index : List ℕ) : Type 0 where
   pub turned : Turned levels
   pub fits : k < room c
-  pub few : room c ≤ 1024
+  pub few : room c ≤ mostRecords
   pub flags : (j : ℕ) → j < k → flagAt c j < levels .n
   pub indexed : Indexed c k index

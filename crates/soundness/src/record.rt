@@ -1,7 +1,7 @@
 use arguments::Levels;
 ghost use mathlib.Core.Path.{_≡_};
 ghost use Rattle.rule.specs.Order.{flags};
-ghost use Rattle.rule.specs.Cells.{asksLater};
+ghost use Rattle.rule.specs.Sound.{asksLater};
 ghost use Rattle.soundness.specs.Record.{fitRecord, Child, Next};
 
 // Whether node m is an end node or asks a flag later in the order than v.

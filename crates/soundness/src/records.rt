@@ -7,14 +7,15 @@ ghost use Prim.Native.Nat.{_≤_};
 ghost use Rattle.rule.specs.Bits.{below};
 ghost use Rattle.rule.specs.Tests.{each};
 ghost use Rattle.rule.specs.Order.{flags};
-ghost use Rattle.rule.specs.Cells.{room, sound};
+ghost use Rattle.rule.specs.Cells.{mostRecords, room};
+ghost use Rattle.rule.specs.Sound.{sound};
 ghost use Rattle.arguments.specs.Level.{Turned};
 ghost use Rattle.unique.specs.Index.{emptyIndex, Indexed};
 ghost use Rattle.soundness.specs.Record.{fitRecord};
 
 // Whether each used record is sound. All of them are then entered in the index.
 fn all_fit(levels: Levels, cells: &[u16], used: u16, index: &mut [u16; unique::INDEX]) -> bool
-    requires { ⌜ Turned levels × (used ≤ room (now cells)) × (room (now cells) ≤ 1024) × (now index ≡ emptyIndex) ⌝ }
+    requires { ⌜ Turned levels × (used ≤ room (now cells)) × (room (now cells) ≤ mostRecords) × (now index ≡ emptyIndex) ⌝ }
     ensures { λ r. ⌜ (r ≡ each (fitRecord (levels .n) (flags (levels .n) (levels .order .places)) (now (cells .entry))) (below used))
         × (r ≡ true → Indexed (now (cells .entry)) used (now (index .exit))) ⌝ }
 {
@@ -37,7 +38,7 @@ pub fn sound(
     used: u16,
     index: &mut [u16; unique::INDEX],
 ) -> bool
-    requires { ⌜ (n ≤ 10) × (room (now cells) ≤ 1024) × (now index ≡ emptyIndex) ⌝ }
+    requires { ⌜ (n ≤ 10) × (room (now cells) ≤ mostRecords) × (now index ≡ emptyIndex) ⌝ }
     ensures { λ r. ⌜ (r ≡ sound n (order .places) (now (cells .entry)) used) × (r ≡ true → Indexed (now (cells .entry)) used (now (index .exit))) ⌝ }
 {
     if cells::room(cells) < used as usize {

@@ -14,8 +14,8 @@ use words::read::byte;
 use words::read::number;
 use words::read::order;
 
-// The cells that a list is lent at most: three more than the paper allows.
-const MOST: usize = 3075;
+// The cells that a list is lent at most: a record more than the paper allows.
+const MOST: usize = cells::MOST + cells::WIDTH;
 
 // The number at a place; of `@j` the node that call j handed back.
 pub fn given(s: Session, text: &[u8], at: usize) -> Word {

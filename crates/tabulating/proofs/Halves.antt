@@ -15,7 +15,7 @@ use Rattle.rule.specs.Bits.{bit, setBit}
 use Rattle.rule.specs.Tests.{each}
 use Rattle.rule.specs.Order.{flags, level}
 use Rattle.rule.specs.Cells.{flagAt}
-use Rattle.rule.specs.Diagram.{walk, tableOf}
+use Rattle.rule.specs.Walk.{walk, tableOf}
 use Rattle.theory.specs.Child.{child}
 use Rattle.theory.specs.Level.{levelOf}
 use Rattle.theory.proofs.Member.{In, head, tail}

@@ -10,15 +10,15 @@ use Rattle.rule.specs.Bits.{bit}
 use Rattle.rule.specs.Tests.{each}
 use Rattle.rule.specs.Table.{tabled}
 use Rattle.rule.specs.Order.{fitOrder}
-use Rattle.rule.specs.Diagram.{walk}
+use Rattle.rule.specs.Walk.{walk}
 use Rattle.theory.specs.Level.{levelOf}
-use Rattle.theory.specs.Sound.{Sound}
+use Rattle.theory.specs.Shape.{Shaped}
 
 -- a fit order and sound cells, a level, a row, a node that asks no flag before the level, and bytes for all rows
 pub record Filling (n : ℕ) (order : List ℕ) (at row : ℕ) (c : List ℕ) (used m : ℕ) (bytes : List ℕ) : Type 0 where
   pub few : n ≤ 10
   pub order-fits : fitOrder n order ≡ true
-  pub is-sound : Sound n order c used
+  pub is-sound : Shaped n order c used
   pub row-fits : row < 2 ^ n
   pub node : m ≤ used + 1
   pub later : at ≤ levelOf n order c m

@@ -9,7 +9,7 @@ use lib.Dec.{eqb}
 use lib.ListN.{length, getD}
 use Rattle.rule.specs.Bits.{setBit}
 use Rattle.rule.specs.Table.{tabled, cofactor}
-use Rattle.rule.specs.Diagram.{walk, tableOf}
+use Rattle.rule.specs.Walk.{walk, tableOf}
 use Rattle.rule.specs.Results.{constantTable, digit, joinTable, chooseTable}
 use Rattle.theory.proofs.Bits.{setBit-lt}
 use Rattle.theory.proofs.Tests.{cond-same}

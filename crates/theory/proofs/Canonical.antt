@@ -14,13 +14,13 @@ use Rattle.rule.specs.Bits.{bit, setBit, below}
 use Rattle.rule.specs.Table.{cofactor, depends}
 use Rattle.rule.specs.Order.{flags, level}
 use Rattle.rule.specs.Cells.{flagAt, lowAt, highAt, recordOf}
-use Rattle.rule.specs.Diagram.{walk, tableOf}
+use Rattle.rule.specs.Walk.{walk, tableOf}
 use Rattle.theory.proofs.Bits.{length-from, map-below, bit-lt, bit-same, bit-other, setBit-lt, setBit-own}
 use Rattle.theory.proofs.Tests.{cond-same}
 use Rattle.theory.proofs.Cofactor.{length-cofactor, cofactor-row, depends-false, not-depends}
 use Rattle.theory.proofs.Sets.{Order, full-lt}
 use Rattle.theory.specs.Level.{levelOf}
-use Rattle.theory.specs.Sound.{Sound}
+use Rattle.theory.specs.Shape.{Shaped}
 use Rattle.theory.proofs.Levels.{level-lt, level-one}
 use Rattle.theory.proofs.Nodes.{Ignores}
 use Rattle.theory.specs.Child.{childAt}
@@ -71,7 +71,7 @@ level-record n order c k =
     let e : k + 2 - 2 ≡ k = omega arith in
     rw (le-ltb (k + 2) 2 (omega arith), e)
 
-module _ {n used : ℕ} {order c : List ℕ} (s : Sound n order c used) (o : Order n (flags n order)) where
+module _ {n used : ℕ} {order c : List ℕ} (s : Shaped n order c used) (o : Order n (flags n order)) where
   pub level-le : (m : ℕ) → m ≤ used + 1 → levelOf n order c m ≤ n
   level-le m h =
       elim (node m) [

@@ -13,13 +13,14 @@ use Rattle.rule.specs.Tests.{keep}
 use Rattle.rule.specs.Level.{levelNodes, levelCount, nodesOf, size}
 use Rattle.rule.specs.Order.{flags, askedBefore}
 use Rattle.rule.specs.Cells.{flagAt, recordOf}
-use Rattle.rule.specs.Diagram.{reach, tableOf, asking}
+use Rattle.rule.specs.Walk.{tableOf}
+use Rattle.rule.specs.Diagram.{reach, asking}
 use Rattle.theory.proofs.Bits.{length-from, below-in, in-below}
 use Rattle.theory.proofs.Tests.{keep-in, in-keep}
 use Rattle.theory.proofs.Perm.{once-map, Once, Within, once-set, once-keep, once-from}
 use Rattle.theory.proofs.Friedman.{level-in, in-level, level-once, friedman-set}
 use Rattle.theory.proofs.Sets.{Order}
-use Rattle.theory.specs.Sound.{Sound}
+use Rattle.theory.specs.Shape.{Shaped}
 use Rattle.theory.proofs.Levels.{asked-exactly, asked-turn}
 use Rattle.theory.proofs.Nodes.{nodes-is, nodes-once}
 use Rattle.theory.proofs.Walks.{length-table}
@@ -27,7 +28,7 @@ use Rattle.theory.proofs.Reach.{Diagram}
 use Rattle.theory.proofs.Canonical.{level-record, canonical, asks, depends-asks}
 use Rattle.theory.proofs.Descents.{descents, fixings-descents, descents-in, reach-descents}
 
-module _ {n used : ℕ} {order c : List ℕ} (s : Sound n order c used) (o : Order n (flags n order)) where
+module _ {n used : ℕ} {order c : List ℕ} (s : Shaped n order c used) (o : Order n (flags n order)) where
   -- ---- the nodes of a level are the records that ask its flag
 
   level-record-of : (v m : ℕ) → v < n → m ≤ used + 1 → {u : List ℕ} → In u (levelNodes (askedBefore v (flags n order)) v (tableOf n c m))

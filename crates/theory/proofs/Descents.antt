@@ -14,11 +14,12 @@ use lib.ListN.{length}
 use Rattle.rule.specs.Table.{cofactor, fixings}
 use Rattle.rule.specs.Order.{flags, level}
 use Rattle.rule.specs.Cells.{flagAt}
-use Rattle.rule.specs.Diagram.{reach, tableOf}
+use Rattle.rule.specs.Walk.{tableOf}
+use Rattle.rule.specs.Diagram.{reach}
 use Rattle.theory.proofs.Sets.{Order}
 use Rattle.theory.specs.Child.{childAt, child}
 use Rattle.theory.specs.Level.{levelOf}
-use Rattle.theory.specs.Sound.{Sound}
+use Rattle.theory.specs.Shape.{Shaped}
 use Rattle.theory.proofs.Levels.{Turn, level-lt, level-one}
 use Rattle.theory.proofs.Walks.{node, smaller}
 use Rattle.theory.proofs.Reach.{reach-self, reach-split, reach-from, reach-cases, reach-trans}
@@ -51,7 +52,7 @@ child-record c v b k =
     let e : k + 2 - 2 ≡ k = omega arith in
     rw (le-ltb (k + 2) 2 (omega arith), e)
 
-module _ {n used : ℕ} {order c : List ℕ} (s : Sound n order c used) (o : Order n (flags n order)) where
+module _ {n used : ℕ} {order c : List ℕ} (s : Shaped n order c used) (o : Order n (flags n order)) where
   -- ---- one flag is fixed
 
   -- a node whose level is not before that of v asks a later flag and stays, or asks v

@@ -7,16 +7,16 @@ use Prim.Native.Nat.{ℕ, _+_, _≤_, _<_}
 use native.Mathlib.Decide.{decLt}
 use native.Mathlib.Omega.{arith}
 use Rattle.rule.specs.Order.{flags, level}
-use Rattle.rule.specs.Diagram.{tableOf}
+use Rattle.rule.specs.Walk.{tableOf}
 use Rattle.theory.proofs.Member.{In}
 use Rattle.theory.proofs.Perm.{Within}
 use Rattle.theory.specs.Growth.{Grows}
 use Rattle.theory.specs.Level.{levelOf}
-use Rattle.theory.specs.Sound.{Sound}
+use Rattle.theory.specs.Shape.{Shaped}
 use Rattle.theory.proofs.Walks.{node, smaller, table-kept, flag-kept}
 use Rattle.theory.proofs.Canonical.{level-end, level-record}
 
-pub grows-none : {n used : ℕ} {order c : List ℕ} (goal : List (List ℕ)) → Sound n order c used → Grows n order goal c used c used
+pub grows-none : {n used : ℕ} {order c : List ℕ} (goal : List (List ℕ)) → Shaped n order c used → Grows n order goal c used c used
 grows-none goal s = record { lent = refl; is-sound = s; grown = omega arith; old = λ i h. refl; within = λ k h l. absurd (omega arith) }
 
 pub grows-within : {n used more : ℕ} {order c d : List ℕ} {goal goal′ : List (List ℕ)} → Within goal goal′ → Grows n order goal c used d more
@@ -25,7 +25,7 @@ grows-within w g =
     record { lent = g .lent; is-sound = g .is-sound; grown = g .grown; old = g .old; within = λ k h l. w _ (g .within k h l) }
 
 -- an older node keeps its table
-pub older : {n used more : ℕ} {order c d : List ℕ} {goal : List (List ℕ)} → Sound n order c used → Grows n order goal c used d more → (m : ℕ) → m ≤ used + 1
+pub older : {n used more : ℕ} {order c d : List ℕ} {goal : List (List ℕ)} → Shaped n order c used → Grows n order goal c used d more → (m : ℕ) → m ≤ used + 1
     → tableOf n d m ≡ tableOf n c m
 older {n} {used} {more} {order} {c} {d} s g m h = sym (table-kept c d used (λ i l. sym (g .old i l)) (smaller s) n m h)
 

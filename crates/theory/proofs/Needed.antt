@@ -15,14 +15,14 @@ use Rattle.rule.specs.Bits.{from, below}
 use Rattle.rule.specs.Tests.{among}
 use Rattle.rule.specs.Level.{nodesOf, size}
 use Rattle.rule.specs.Order.{flags}
-use Rattle.rule.specs.Diagram.{tableOf}
+use Rattle.rule.specs.Walk.{tableOf}
 use Rattle.rule.specs.Results.{recordTables, lacking, needed, firstWith, madeNode}
 use Rattle.theory.proofs.Member.{In, head, tail, not-nil, cases-cons, cast, in-map, map-in}
 use Rattle.theory.proofs.Bits.{length-from, from-in, in-from, below-in, in-below}
 use Rattle.theory.proofs.Tests.{same?, among?, keep-in, in-keep, length-keep}
 use Rattle.theory.proofs.Perm.{Once, later, once-length, once-keep, once-from, once-map}
 use Rattle.theory.proofs.Sets.{Order}
-use Rattle.theory.specs.Sound.{Sound}
+use Rattle.theory.specs.Shape.{Shaped}
 use Rattle.theory.proofs.Nodes.{nodes-once}
 use Rattle.theory.proofs.Walks.{smaller, length-table}
 use Rattle.theory.proofs.Reach.{reach-le}
@@ -75,7 +75,7 @@ first-is n c t m (k ∷ ms) i e f =
 abbrev added : ℕ → List ℕ → ℕ → ℕ → List (List ℕ)
 added n d used more = map (λ k. tableOf n d (k + 2)) (from used (more - used))
 
-module _ {n used more : ℕ} {order d : List ℕ} (c : List ℕ) (s : Sound n order d more) (o : Order n (flags n order)) (le : used ≤ more)
+module _ {n used more : ℕ} {order d : List ℕ} (c : List ℕ) (s : Shaped n order d more) (o : Order n (flags n order)) (le : used ≤ more)
     (kept : (k : ℕ) → k ≤ used + 1 → tableOf n d k ≡ tableOf n c k) (t : List ℕ) where
   added-length : length (added n d used more) ≡ more - used
   added-length = length-map (from used (more - used)) (λ k. tableOf n d (k + 2)) ∙ length-from used (more - used)

@@ -10,11 +10,12 @@ use native.Mathlib.Decide.{ℕ-discrete}
 use native.Mathlib.Omega.{arith}
 use borrow.Author.Tests.{lt-ltb, le-ltb, leb-true, le-leb, eqb-true, eq-eqb}
 use lib.Dec.{eqb, leb}
-use Rattle.rule.specs.Cells.{lowAt, highAt, recordOf, sound}
+use Rattle.rule.specs.Cells.{lowAt, highAt, recordOf}
+use Rattle.rule.specs.Sound.{sound}
 use Rattle.rule.specs.Diagram.{reachIn, reach, allReached, diagram}
 use Rattle.theory.proofs.Tests.{and-split, and-join, each-below, below-each}
-use Rattle.theory.specs.Sound.{Sound, Smaller}
-use Rattle.theory.proofs.Sound.{sound-view, view-sound}
+use Rattle.theory.specs.Shape.{Shaped, Smaller}
+use Rattle.theory.proofs.Sound.{sound-shape, shape-sound}
 use Rattle.theory.specs.Child.{childAt}
 use Rattle.theory.proofs.Walks.{node, nodes, child-is}
 
@@ -182,8 +183,9 @@ module _ {c : List ℕ} {used : ℕ} (s : Smaller c used) (root : ℕ) where
 
 -- ---- diagrams
 
+-- cells of the shape in which every record is reached
 pub record Diagram (n : ℕ) (order c : List ℕ) (used root : ℕ) : Type 0 where
-  pub cells : Sound n order c used
+  pub cells : Shaped n order c used
   pub root-is : root ≤ used + 1
   pub reached : (k : ℕ) → k < used → reach c root (k + 2) ≡ true
 
@@ -194,9 +196,9 @@ module _ (n : ℕ) (order c : List ℕ) (used root : ℕ) where
   diagram-view e =
       let (a, e₁) = and-split (sound n order c used) _ e in
       let (b, r) = and-split (leb root (used + 1)) _ e₁ in
-      record { cells = sound-view n order c used a; root-is = leb-true root (used + 1) b; reached = all-reached c used root .0 r }
+      record { cells = sound-shape n order c used a; root-is = leb-true root (used + 1) b; reached = all-reached c used root .0 r }
 
   pub view-diagram : Diagram n order c used root → diagram n order c used root ≡ true
   unfolding diagram
   view-diagram d =
-      and-join (view-sound n order c used (d .cells)) (and-join (le-leb root (used + 1) (d .root-is)) (all-reached c used root .1 (d .reached)))
+      and-join (shape-sound n order c used (d .cells)) (and-join (le-leb root (used + 1) (d .root-is)) (all-reached c used root .1 (d .reached)))

@@ -1,23 +1,21 @@
--- Diagrams are the ordered decision diagrams to which neither collapsing step applies.
+-- Cells of the shape in which every record is reached are the ordered decision diagrams to which neither collapsing step applies.
 -- Assumes nothing.
 use mathlib.Core.Path.{_≡_, refl}
-use mathlib.Core.Bool.{true}
 use mathlib.Core.List.{List}
 use Prim.Native.Nat.{ℕ, _+_, _-_, _≤_, _<_}
 use native.Mathlib.Omega.{arith}
-use borrow.Author.Tests.{le-leb}
 use Rattle.rule.specs.Order.{flags}
-use Rattle.rule.specs.Cells.{flagAt, lowAt, highAt, sound}
-use Rattle.rule.specs.Diagram.{diagram}
+use Rattle.rule.specs.Cells.{flagAt, lowAt, highAt}
+use Rattle.rule.specs.Sound.{shaped}
 use Rattle.rule.specs.Reduced.{Equivalent, terminals, internal, Reduced, Ordered}
 use Rattle.theory.proofs.Tests.{and-join}
-use Rattle.theory.specs.Sound.{Sound, Smaller}
-use Rattle.theory.proofs.Sound.{flags-below, children-differ, children-smaller, children-later, none-equal, laid-view}
+use Rattle.theory.specs.Shape.{Shaped, Smaller}
+use Rattle.theory.proofs.Shape.{flags-below, children-differ, children-smaller, children-later, none-equal, laid-view, shape-view}
 use Rattle.theory.proofs.Walks.{nodes}
-use Rattle.theory.proofs.Reach.{all-reached, diagram-view}
+use Rattle.theory.proofs.Reach.{Diagram, all-reached}
 
 -- in sound cells equivalent nodes are equal
-pub equivalent-eq : {n used : ℕ} {order c : List ℕ} → Sound n order c used → {m p : ℕ} → m ≤ used + 1 → p ≤ used + 1 → Equivalent c m p → m ≡ p
+pub equivalent-eq : {n used : ℕ} {order c : List ℕ} → Shaped n order c used → {m p : ℕ} → m ≤ used + 1 → p ≤ used + 1 → Equivalent c m p → m ≡ p
 equivalent-eq s hm hp (terminals h e) = e
 equivalent-eq {used} {c} s hm hp (internal {m = m} {p = p} a b f l h) =
     let j : m - 2 < used = omega arith in
@@ -39,9 +37,8 @@ equivalent-refl {c} s = nodes s (λ (m : ℕ). Equivalent c m m) (λ m l. termin
 
 module _ (n : ℕ) (order c : List ℕ) (used root : ℕ) where
   -- a diagram is ordered, and neither collapsing step applies
-  pub diagram-reduced : diagram n order c used root ≡ true → Ordered n order c used root × Reduced c used
-  diagram-reduced e =
-      let d = diagram-view n order c used root e in
+  pub diagram-reduced : Diagram n order c used root → Ordered n order c used root × Reduced c used
+  diagram-reduced d =
       let s = d .cells in (
         record {
           is-laid = laid-view c used .1 (s .fits, s .clear);
@@ -58,19 +55,23 @@ module _ (n : ℕ) (order c : List ℕ) (used root : ℕ) where
       )
 
   -- and the other way round
-  pub reduced-diagram : Ordered n order c used root → Reduced c used → diagram n order c used root ≡ true
-  unfolding diagram sound
+  pub reduced-diagram : Ordered n order c used root → Reduced c used → Diagram n order c used root
+  unfolding shaped
   reduced-diagram o r =
-      and-join
-      (and-join (o .is-laid)
-      (and-join (o .below)
-      (and-join (children-differ c used .1 (λ k h q. r .step-i k h (same q (omega (arith, small k h .0)))))
-      (and-join (o .smaller)
-      (and-join (o .later)
-      (none-equal c used .1 (λ k h j l q.
-      let a = small j (omega arith) in
-      r .step-ii j k l h (records c j k (q .0) (same (q .1 .0) (omega arith)) (same (q .1 .1) (omega arith))))))))))
-      (and-join (le-leb root (used + 1) (o .root-is)) (o .reached))
+      record {
+        cells =
+            shape-view n order c used
+            (and-join (o .is-laid)
+            (and-join (o .below)
+            (and-join (children-differ c used .1 (λ k h q. r .step-i k h (same q (omega (arith, small k h .0)))))
+            (and-join (o .smaller)
+            (and-join (o .later)
+            (none-equal c used .1 (λ k h j l q.
+            let a = small j (omega arith) in
+            r .step-ii j k l h (records c j k (q .0) (same (q .1 .0) (omega arith)) (same (q .1 .1) (omega arith))))))))));
+        root-is = o .root-is;
+        reached = all-reached c used root .0 (o .reached);
+      }
     where
       small : (k : ℕ) → k < used → (lowAt c k < k + 2) × (highAt c k < k + 2)
       small = children-smaller c used .0 (o .smaller)

@@ -7,8 +7,7 @@ use native.Mathlib.Decide.{ℕ-discrete}
 use native.Mathlib.Omega.{arith}
 use lib.ListN.{length, getD}
 use Rattle.rule.specs.Bits.{bit, setBit}
-use Rattle.rule.specs.Table.{cofactor, fixings}
-use Rattle.theory.specs.Restrict.{restrict}
+use Rattle.rule.specs.Table.{cofactor, fixings, restrict}
 use Rattle.theory.proofs.Member.{In, head, tail, not-nil}
 use Rattle.theory.proofs.Bits.{bit-lt, bit-same, bit-other, bits-eq, setBit-lt}
 use Rattle.theory.proofs.Cofactor.{length-cofactor, cofactor-row}

@@ -15,11 +15,11 @@ use lib.Seq.{ext-getD}
 use Rattle.rule.specs.Bits.{bit, below}
 use Rattle.rule.specs.Table.{tabled, fitRows}
 use Rattle.rule.specs.Cells.{width, flagAt, lowAt, highAt, recordOf}
-use Rattle.rule.specs.Diagram.{step, walkIn, walk, tableOf}
+use Rattle.rule.specs.Walk.{step, walkIn, walk, tableOf}
 use Rattle.theory.proofs.Bits.{length-from, map-below}
 use Rattle.theory.proofs.Tests.{in-each}
 use Rattle.theory.specs.Child.{childAt}
-use Rattle.theory.specs.Sound.{Sound, Smaller}
+use Rattle.theory.specs.Shape.{Shaped, Smaller}
 
 -- ---- nodes
 
@@ -27,7 +27,7 @@ use Rattle.theory.specs.Sound.{Sound, Smaller}
 pub node : (m : ℕ) → (m < 2) ⊎ ((k : ℕ) × (m ≡ k + 2))
 node m = elim (decLt m 2) [ yes h ↦ inl h | no d ↦ inr (m - 2, omega arith) ]
 
-pub smaller : {n used : ℕ} {order c : List ℕ} → Sound n order c used → Smaller c used
+pub smaller : {n used : ℕ} {order c : List ℕ} → Shaped n order c used → Smaller c used
 smaller s = record { low = s .low-smaller; high = s .high-smaller }
 
 module _ {c : List ℕ} {used : ℕ} (s : Smaller c used) where

@@ -1,6 +1,5 @@
-pub mod Sound
+pub mod Shape
 pub mod Level
 pub mod Child
-pub mod Restrict
 pub mod Sets
 pub mod Growth

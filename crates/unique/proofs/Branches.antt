@@ -10,7 +10,7 @@ use lib.ListN.{length}
 use Rattle.rule.specs.Table.{cofactor, depends}
 use Rattle.rule.specs.Level.{nodesOf}
 use Rattle.rule.specs.Order.{flags, level}
-use Rattle.rule.specs.Diagram.{tableOf}
+use Rattle.rule.specs.Walk.{tableOf}
 use Rattle.theory.proofs.Member.{In}
 use Rattle.theory.proofs.Perm.{Within}
 use Rattle.theory.proofs.Cofactor.{depends-false}

@@ -10,7 +10,7 @@ use Rattle.rule.specs.Order.{flags, level}
 use Rattle.rule.specs.Cells.{flagAt, lowAt, highAt, recordOf}
 use Rattle.cells.proofs.Added.{Added}
 use Rattle.theory.specs.Level.{levelOf}
-use Rattle.theory.specs.Sound.{Sound}
+use Rattle.theory.specs.Shape.{Shaped}
 use Rattle.theory.proofs.Walks.{flag-kept, low-kept, high-kept}
 use Rattle.theory.proofs.Canonical.{level-record}
 use Rattle.unique.specs.Node.{None}
@@ -33,7 +33,7 @@ each-record {used} P f g k h = ⊎-elim (λ (e : k ≡ used). subst P (sym e) g)
 level-of : (n : ℕ) (order c : List ℕ) (m : ℕ) → 2 ≤ m → levelOf n order c m ≡ level (flags n order) (flagAt c (recordOf m))
 level-of n order c m h = let e : m ≡ recordOf m + 2 = omega arith in ap (levelOf n order c) e ∙ level-record n order c (recordOf m)
 
-module _ {n used v low high : ℕ} {order c d : List ℕ} (s : Sound n order c used) (p : Allowed n order c used v low high) (x : Added c used v low high d) where
+module _ {n used v low high : ℕ} {order c d : List ℕ} (s : Shaped n order c used) (p : Allowed n order c used v low high) (x : Added c used v low high d) where
   old-flag : (k : ℕ) → k < used → flagAt d k ≡ flagAt c k
   old-flag k h = flag-kept d c used (x .agree) k h
 
@@ -85,7 +85,7 @@ module _ {n used v low high : ℕ} {order c d : List ℕ} (s : Sound n order c u
       e′ : j ≡ used → highAt d used ≡ highAt d k
       e′ i = ap (highAt d) (sym i) ∙ e
 
-  pub extended : Sound n order d (used + 1)
+  pub extended : Shaped n order d (used + 1)
   extended =
       record {
         fits = x .fits;

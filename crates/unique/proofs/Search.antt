@@ -6,14 +6,14 @@ use Prim.Native.Nat.{ℕ, _+_, _≤_, _<_}
 use native.Mathlib.Omega.{arith}
 use lib.ListN.{length}
 use Rattle.rule.specs.Order.{flags, level}
-use Rattle.rule.specs.Diagram.{tableOf}
+use Rattle.rule.specs.Walk.{tableOf}
 use Rattle.rule.specs.Reply.{Reply, accepted, refused, numberOf}
 use Rattle.cells.proofs.Record.{put-length}
 use Rattle.theory.proofs.Member.{In, cast}
 use Rattle.theory.proofs.Sets.{Order}
 use Rattle.theory.specs.Growth.{Grows}
 use Rattle.theory.specs.Level.{levelOf}
-use Rattle.theory.specs.Sound.{Sound}
+use Rattle.theory.specs.Shape.{Shaped}
 use Rattle.theory.proofs.Walks.{smaller, table-kept, length-table}
 use Rattle.theory.proofs.Canonical.{level-record, mix, mix-same, table-mix, canonical}
 use Rattle.theory.proofs.Growth.{grows-none}
@@ -55,11 +55,11 @@ allowed : {n used v low high : ℕ} {order c : List ℕ} → Branch n order c us
 allowed b d f =
     record { flag = b .flag; differ = d; low-old = b .low-old; high-old = b .high-old; low-later = b .low-later; high-later = b .high-later; new = f }
 
-module _ {n used v low high : ℕ} {order c : List ℕ} (s : Sound n order c used) (o : Order n (flags n order)) (b : Branch n order c used v low high)
+module _ {n used v low high : ℕ} {order c : List ℕ} (s : Shaped n order c used) (o : Order n (flags n order)) (b : Branch n order c used v low high)
     -- where the children differ the goal calls for the joined rule
     (goal : List (List ℕ)) (call : (low ≡ high → ⊥) → In (mix v (tableOf n c low) (tableOf n c high)) goal) where
   module _ {d : List ℕ} (differ : low ≡ high → ⊥) (none : None c used v low high) (x : Added c used v low high d) where
-    more : Sound n order d (used + 1)
+    more : Shaped n order d (used + 1)
     more = extended s (allowed b differ none) x
 
     kept : (m : ℕ) → m ≤ used + 1 → tableOf n d m ≡ tableOf n c m

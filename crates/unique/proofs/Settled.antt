@@ -10,15 +10,16 @@ use lib.ListN.{length, take}
 use lib.Seq.{ext-getD, length-take-le, getD-take}
 use Rattle.rule.specs.Level.{nodesOf}
 use Rattle.rule.specs.Order.{flags}
-use Rattle.rule.specs.Cells.{width, sound}
+use Rattle.rule.specs.Cells.{width}
+use Rattle.rule.specs.Sound.{sound}
 use Rattle.rule.specs.Results.{needed, free, madeNode}
 use Rattle.rule.specs.Calls.{State, Holds}
 use Rattle.cells.specs.Record.{clearFrom}
 use Rattle.cells.proofs.Cleared.{cleared-all}
 use Rattle.theory.proofs.Tests.{in-among}
 use Rattle.theory.proofs.Sets.{Order}
-use Rattle.theory.specs.Sound.{Sound}
-use Rattle.theory.proofs.Sound.{view-sound}
+use Rattle.theory.specs.Shape.{Shaped}
+use Rattle.theory.proofs.Sound.{shape-sound}
 use Rattle.theory.proofs.Growth.{older}
 use Rattle.theory.proofs.Needed.{added-is, needed-least, needed-most, needed-more, made-is}
 use Rattle.unique.specs.declared.node.Grown.{Grown}
@@ -38,7 +39,7 @@ pub record Unsettled (s : State) (c t d : List ℕ) : Type 0 where
   pub exceeds : free c (s .used) < needed (s .n) (s .places) c (s .used) t
   pub cleared : clearFrom d (s .used) ≡ c
 
-module _ (s : State) {c t d : List ℕ} {r : Grown} (x : Sound (s .n) (s .places) c (s .used)) (o : Order (s .n) (flags (s .n) (s .places)))
+module _ (s : State) {c t d : List ℕ} {r : Grown} (x : Shaped (s .n) (s .places) c (s .used)) (o : Order (s .n) (flags (s .n) (s .places)))
     (g : Grew (s .n) (s .places) (nodesOf (flags (s .n) (s .places)) t) 0 t c (s .used) r d) where
   old-kept : take (s .used * width) d ≡ take (s .used * width) c
   old-kept =
@@ -65,7 +66,7 @@ module _ (s : State) {c t d : List ℕ} {r : Grown} (x : Sound (s .n) (s .places
         fits = omega (arith, g .grows .is-sound .fits, g .grows .lent);
         holds = record {
           lent = g .grows .lent;
-          is-sound = subst (λ (k : ℕ). sound (s .n) (s .places) d k ≡ true) is (view-sound (s .n) (s .places) d (r .used) (g .grows .is-sound));
+          is-sound = subst (λ (k : ℕ). sound (s .n) (s .places) d k ≡ true) is (shape-sound (s .n) (s .places) d (r .used) (g .grows .is-sound));
           old = old-kept;
           kept = kept;
           added = λ k h l. in-among (added-is c (g .grows .is-sound) o (g .grows .grown) kept t (g .grows .within) k h (omega arith));

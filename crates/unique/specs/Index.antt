@@ -6,7 +6,7 @@ use mathlib.Core.List.{List}
 use Prim.Native.Nat.{ℕ, zero, suc, _+_, _*_, _%_, _<_}
 use lib.Dec.{eqb}
 use lib.ListN.{length, getD, replicate}
-use Rattle.rule.specs.Cells.{flagAt, lowAt, highAt}
+use Rattle.rule.specs.Cells.{mostRecords, flagAt, lowAt, highAt}
 
 -- how many hashes there are
 abbrev pub heads : ℕ
@@ -14,7 +14,7 @@ heads = 4096
 
 -- and links: one for each record that cells can hold
 abbrev pub links : ℕ
-links = 1024
+links = mostRecords
 
 -- what the flag and the high node are multiplied by in a hash
 abbrev pub flagFactor : ℕ

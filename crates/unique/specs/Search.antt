@@ -4,7 +4,7 @@ use mathlib.Core.Path.{_≡_}
 use mathlib.Core.List.{List, List·Memᴰ}
 use Prim.Native.Nat.{ℕ, _+_, _≤_, _<_}
 use Rattle.rule.specs.Cells.{room}
-use Rattle.rule.specs.Diagram.{tableOf}
+use Rattle.rule.specs.Walk.{tableOf}
 use Rattle.theory.specs.Growth.{Grows}
 use Rattle.theory.specs.Level.{levelOf}
 use Rattle.unique.specs.declared.node.Grown.{Grown}

@@ -3,7 +3,7 @@ use crate::node::Found;
 use crate::node::Grown;
 use crate::node::make;
 ghost use Prim.Native.Nat.{_≤_};
-ghost use Rattle.rule.specs.Cells.{room};
+ghost use Rattle.rule.specs.Cells.{mostRecords, room};
 ghost use Rattle.unique.specs.Index.{Indexed};
 ghost use Rattle.unique.specs.Node.{MakesAbove};
 
@@ -15,7 +15,7 @@ pub fn make_above(
     low: u16,
     second: Grown,
 ) -> Grown
-    requires { ⌜ (second .used ≤ room (now cells)) × (room (now cells) ≤ 1024) × Indexed (now cells) (second .used) (now index) ⌝ }
+    requires { ⌜ (second .used ≤ room (now cells)) × (room (now cells) ≤ mostRecords) × Indexed (now cells) (second .used) (now index) ⌝ }
     ensures { λ r. ⌜ MakesAbove (now (cells .entry)) flag low second r (now (cells .exit)) × Indexed (now (cells .exit)) (r .used) (now (index .exit)) ⌝ }
 {
     let higher = second.found;

@@ -9,8 +9,8 @@ ghost use Rattle.unique.specs.Node.{Finds};
 // How many hashes there are: some more than records, so that most chains are empty.
 const HEADS: usize = 4096;
 
-// The most records that cells can hold.
-const LINKS: usize = 1024;
+// A link for each record that cells can hold.
+const LINKS: usize = cells::RECORDS;
 
 // The length of an index: its heads, then a link for each record. All of it is 0 where no record is used.
 pub const INDEX: usize = HEADS + LINKS;

@@ -9,11 +9,11 @@ use lib.ListN.{length, take}
 use lib.Pow.{pow-pos}
 use Rattle.rule.specs.Table.{fitLength}
 use Rattle.rule.specs.Order.{flags}
-use Rattle.rule.specs.Diagram.{walk, tableOf}
+use Rattle.rule.specs.Walk.{walk, tableOf}
 use Rattle.rule.specs.Refusals.{refusal, node, rowArgument, tabulateRows}
 use Rattle.rule.specs.Reply.{accepted, refused, reply, leaves}
 use Rattle.theory.proofs.Refused.{refused-more, refused-reply}
-use Rattle.theory.proofs.Sound.{sound-view}
+use Rattle.theory.proofs.Sound.{sound-shape}
 use Rattle.theory.proofs.Walks.{smaller, walk-lt}
 use Rattle.checking.proofs.Refused.{cellRows, Taken}
 use Rattle.checking.proofs.Parts.{fit-room, sound-room}
@@ -30,7 +30,7 @@ module _ {n used : ℕ} {o c : List ℕ} (t : Taken n o c used) where
 
   pub walkable : {m : ℕ} → m ≤ used + 1 → Walkable c used m
   walkable h =
-      let s = sound-view n o c used (t .is-sound) in
+      let s = sound-shape n o c used (t .is-sound) in
       record { fits = s .fits; flags = λ k l. omega (arith, s .flag k l, t .few); smaller = smaller s; node = h }
 
   -- a walk's answer is an end node
@@ -91,7 +91,7 @@ module _ (n : ℕ) (o c : List ℕ) (used m : ℕ) (bytes : List ℕ) where
           record {
             few = h;
             order-fits = t .ordered;
-            is-sound = sound-view n o c used (t .is-sound);
+            is-sound = sound-shape n o c used (t .is-sound);
             row-fits = pow-pos n;
             node = g;
             later = omega arith;

@@ -7,7 +7,7 @@ use native.Mathlib.Omega.{arith}
 use borrow.Author.Tests.{eq-eqb, ne-eqb}
 use Rattle.rule.specs.Bits.{bit}
 use Rattle.rule.specs.Cells.{flagAt, lowAt, highAt}
-use Rattle.rule.specs.Diagram.{step, walk}
+use Rattle.rule.specs.Walk.{step, walk}
 use Rattle.theory.proofs.Walks.{step-is, walk-record}
 use Rattle.walking.specs.Walk.{Walkable}
 

@@ -1,7 +1,7 @@
 ghost use mathlib.Core.Path.{_≡_};
 ghost use Prim.Native.Nat.{_<_};
 ghost use Rattle.rule.specs.Cells.{room, flagAt};
-ghost use Rattle.rule.specs.Diagram.{step, walk};
+ghost use Rattle.rule.specs.Walk.{step, walk};
 ghost use Rattle.walking.specs.Walk.{Walkable};
 
 // The node that a walk comes to from record k: low or high by the row.

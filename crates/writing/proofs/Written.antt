@@ -11,13 +11,14 @@ use lib.ListN.{length, drop, length-append}
 use lib.Seq.{length-take-le}
 use Rattle.rule.specs.Tests.{each}
 use Rattle.rule.specs.Order.{places, flags, fitOrder}
-use Rattle.rule.specs.Cells.{fitCells, sound}
+use Rattle.rule.specs.Cells.{fitCells, recordsIn}
+use Rattle.rule.specs.Sound.{sound}
 use Rattle.rule.specs.Diagram.{allReached}
 use Rattle.rule.specs.Refusals.{refusal, orderPlaces, cells, diagramRecords, node, checkRows}
 use Rattle.rule.specs.Reply.{accepted, refused, reply, leaves}
-use Rattle.rule.specs.Files.{longestLabel, countSize, recordSize, two, printable, labelBytes, bitIf, ifSome, recordBytes, recordsIn, mapOf, fileOf, writeRows, Writes}
+use Rattle.rule.specs.Files.{longestLabel, countSize, recordSize, two, printable, labelBytes, bitIf, ifSome, recordBytes, mapOf, fileOf, writeRows, Writes}
 use Rattle.theory.proofs.Refused.{row-passed, refused-more, passed-more, refused-reply}
-use Rattle.theory.proofs.Sound.{sound-view}
+use Rattle.theory.proofs.Sound.{sound-shape}
 use Rattle.runs.specs.Run.{over, Puts}
 use Rattle.runs.proofs.Puts.{puts-more}
 use Rattle.encoding.proofs.Puts.{length-records}
@@ -180,7 +181,7 @@ module _ (n : ℕ) (o c : List ℕ) (used root : ℕ) (l bytes : List ℕ) where
           let (g, e₆) = row-passed (ltb longestLabel (length l)) 12 (labelBytes l ∷ (ltb (length bytes) size, 10) ∷ []) e₅ in
           let (p, e₇) = row-passed (not (each printable l)) 12 ((ltb (length bytes) size, 10) ∷ []) e₆ in
           let (q, e₈) = row-passed (ltb (length bytes) size) 9 [] e₇ in
-          let right = sound-view n o c used (not-false _ (or-first _ _ s)) in
+          let right = sound-shape n o c used (not-false _ (or-first _ _ s)) in
           let few = ltb-false 10 n a in
           record {
             few = few;

@@ -8,7 +8,8 @@ use borrow.Author.Needs.{needs}
 use borrow.Author.Tests.{eq-eqb, ne-eqb}
 use lib.Dec.{eqb}
 use lib.ListN.{length, getD}
-use Rattle.rule.specs.Cells.{width, restClear}
+use Rattle.rule.specs.Cells.{width}
+use Rattle.rule.specs.Sound.{restClear}
 use Rattle.theory.proofs.Scan.{drop-fails, drop-holds}
 use Rattle.cells.proofs.rest_clear.Statement.{statement}
 use Rattle.cells.proofs.rest_clear.Tie as tie

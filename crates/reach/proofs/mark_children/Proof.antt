@@ -5,7 +5,7 @@ use Prim.Native.Nat.{ℕ, _-_, _≤_}
 use native.Mathlib.Omega.{arith}
 use borrow.Author.Needs.{needs}
 use denote.Ref.{now}
-use Rattle.theory.proofs.Sound.{children-smaller}
+use Rattle.theory.proofs.Shape.{children-smaller}
 use Rattle.reach.specs.Mark.{Marked}
 use Rattle.reach.proofs.Marks.{marked-none, marked-more}
 use Rattle.reach.proofs.mark_children.Statement.{statement}

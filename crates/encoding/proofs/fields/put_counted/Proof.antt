@@ -4,7 +4,8 @@ use mathlib.Core.List.{_++_}
 use native.Mathlib.Omega.{arith}
 use borrow.Author.Needs.{needs}
 use denote.Ref.{now}
-use Rattle.rule.specs.Files.{two, recordBytes, recordsIn}
+use Rattle.rule.specs.Cells.{recordsIn}
+use Rattle.rule.specs.Files.{two, recordBytes}
 use Rattle.runs.proofs.Puts.{puts-none, puts-more}
 use Rattle.encoding.proofs.Puts.{some-list, some-long, length-records}
 use Rattle.encoding.proofs.fields.put_counted.Statement.{statement}

@@ -7,7 +7,8 @@ use borrow.Author.Needs.{needs}
 use denote.Ref.{now}
 use lib.ListN.{length}
 use Rattle.rule.specs.Bits.{from}
-use Rattle.rule.specs.Files.{recordBytes, recordsIn}
+use Rattle.rule.specs.Cells.{recordsIn}
+use Rattle.rule.specs.Files.{recordBytes}
 use Rattle.runs.specs.Run.{Puts}
 use Rattle.runs.proofs.Puts.{puts-none, puts-length}
 use Rattle.encoding.proofs.Puts.{puts-record, length-records}

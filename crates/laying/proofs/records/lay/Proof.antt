@@ -7,9 +7,10 @@ use native.Mathlib.Omega.{arith}
 use borrow.Author.Needs.{needs}
 use denote.Ref.{now}
 use Rattle.rule.specs.Bits.{below, from}
-use Rattle.rule.specs.Cells.{room}
-use Rattle.rule.specs.Files.{recordSize, recordAt, laidIn}
-use Rattle.laying.proofs.Laid.{laid-none, laid-next, laid-lent}
+use Rattle.rule.specs.Cells.{room, laidIn}
+use Rattle.rule.specs.Files.{recordSize, recordAt}
+use Rattle.cells.proofs.Laid.{laid-none, laid-lent}
+use Rattle.laying.proofs.Laid.{laid-next}
 use Rattle.laying.proofs.records.lay.Statement.{statement}
 use Rattle.laying.proofs.records.lay.Tie as tie
 

@@ -5,6 +5,7 @@ use native.Mathlib.Omega.{arith}
 use borrow.Author.Needs.{needs}
 use denote.Ref.{now}
 use lib.ListN.{length-replicate}
+use Rattle.rule.specs.Cells.{mostCells}
 use Rattle.rule.specs.Text.{text}
 use Rattle.rule.specs.Listing.{workspaceCells}
 use Rattle.lister.proofs.Listed.{pack-refused, packed-few, packed-room, rows-few, pack-listed}
@@ -20,7 +21,7 @@ put-report-requires c κs =
     let t = now (start .args .table) in
     let pre = start .pre in
     let packed = rw (found .answer2 .given .1) at (call .pack .ensures) in
-    let cs = length-replicate {A = ℕ} 3072 0 in
+    let cs = length-replicate {A = ℕ} mostCells 0 in
     let ws = length-replicate {A = ℕ} workspaceCells 0 in (
       packed-few n t _ _ (pre .0) (pre .1) (pre .2) cs ws packed,
       rows-few n t (pre .0) (pre .1),
@@ -36,7 +37,7 @@ returns c =
     let start = call .before .before .before .before .before in
     let pre = start .pre in
     let packed = rw (found .answer .given .1) at (call .pack .ensures) in
-    rw (← pack-refused (start .args .n) (now (start .args .table)) _ _ (pre .0) (pre .1) (pre .2) (length-replicate {A = ℕ} 3072 0) (length-replicate {A = ℕ} workspaceCells 0) packed)
+    rw (← pack-refused (start .args .n) (now (start .args .table)) _ _ (pre .0) (pre .1) (pre .2) (length-replicate {A = ℕ} mostCells 0) (length-replicate {A = ℕ} workspaceCells 0) packed)
     (c .before .before .put-line .ensures .0)
 
 returns-2 : tie.Need-returns-2
@@ -46,7 +47,7 @@ returns-2 c =
     let start = call .before .before .before .before .before in
     let pre = start .pre in
     let packed = rw (found .answer2 .given .1) at (call .pack .ensures) in
-    rw (← pack-listed (start .args .n) (now (start .args .table)) _ _ (pre .0) (pre .1) (pre .2) (length-replicate {A = ℕ} 3072 0) (length-replicate {A = ℕ} workspaceCells 0) packed)
+    rw (← pack-listed (start .args .n) (now (start .args .table)) _ _ (pre .0) (pre .1) (pre .2) (length-replicate {A = ℕ} mostCells 0) (length-replicate {A = ℕ} workspaceCells 0) packed)
     (c .before .before .put-report .ensures)
 
 pub list-table-spec : {M : Type 1} → statement M

@@ -2,7 +2,7 @@
 -- Assumes nothing.
 use borrow.Author.Needs.{needs}
 use borrow.Author.Tests.{lt-ltb, le-ltb}
-use Rattle.rule.specs.Cells.{asksLater}
+use Rattle.rule.specs.Sound.{asksLater}
 use Rattle.soundness.proofs.record.asks_later.Statement.{statement}
 use Rattle.soundness.proofs.record.asks_later.Tie as tie
 

@@ -3,7 +3,7 @@
 use mathlib.Core.Path.{_≡_, refl, sym, ap, _∙_}
 use Prim.Native.Nat.{ℕ, _+_, _-_, _≤_, _<_}
 use native.Mathlib.Omega.{arith}
-use Rattle.rule.specs.Diagram.{walk}
+use Rattle.rule.specs.Walk.{walk}
 use Rattle.theory.proofs.Walks.{walk-end}
 use Rattle.walking.proofs.Walked.{smaller-step, walk-on}
 use Rattle.walking.proofs.steps.descend.Statement.{statement}

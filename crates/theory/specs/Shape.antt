@@ -1,4 +1,4 @@
--- Sound cells as facts about each record: what the test `sound` of crate rule tells (proofs/Sound.antt).
+-- The shape of cells as facts about each record: what the test `shaped` of crate rule tells (proofs/Shape.antt).
 -- Assumes nothing.
 use mathlib.Core.Path.{_≡_}
 use mathlib.Core.List.{List}
@@ -7,7 +7,7 @@ use lib.ListN.{getD}
 use Rattle.rule.specs.Order.{flags, level}
 use Rattle.rule.specs.Cells.{width, room, flagAt, lowAt, highAt, recordOf}
 
-pub record Sound (n : ℕ) (order c : List ℕ) (used : ℕ) : Type 0 where
+pub record Shaped (n : ℕ) (order c : List ℕ) (used : ℕ) : Type 0 where
   pub fits : used ≤ room c
   pub flag : (k : ℕ) → k < used → flagAt c k < n
   pub differ : (k : ℕ) → k < used → lowAt c k ≡ highAt c k → ⊥

@@ -1,0 +1,26 @@
+-- Walks, and the table of a node (document 01, "Tables, orders, nodes").
+-- Assumes nothing.
+use mathlib.Core.Bool.{cond, true, false}
+use mathlib.Core.List.{List}
+use Prim.Native.Nat.{ℕ, zero, suc}
+use lib.Dec.{eqb}
+use Rattle.rule.specs.Bits.{bit}
+use Rattle.rule.specs.Table.{tabled}
+use Rattle.rule.specs.Cells.{flagAt, lowAt, highAt, recordOf, isEnd}
+
+-- the node that a walk comes to from record k: "takes low or high by the row"
+unfoldable pub step : List ℕ → ℕ → ℕ → ℕ
+step c k row = cond (eqb (bit row (flagAt c k)) 0) (lowAt c k) (highAt c k)
+
+-- a walk of at most `steps` steps from node m: "takes low or high by the row until an end node"
+unfoldable pub walkIn : ℕ → List ℕ → ℕ → ℕ → ℕ
+walkIn zero c m row = m
+walkIn (suc steps) c m row = elim (isEnd m) [ true ↦ m | false ↦ walkIn steps c (step c (recordOf m) row) row ]
+
+-- "A walk starts at the root": from node m, and hands back the answer. Children are smaller, so m steps are enough.
+abbrev pub walk : List ℕ → ℕ → ℕ → ℕ
+walk c m row = walkIn m c m row
+
+-- the table of a node: its walk's answer in each row
+abbrev pub tableOf : ℕ → List ℕ → ℕ → List ℕ
+tableOf n c m = tabled n (walk c m)
