@@ -169,7 +169,7 @@ int main(void)
     measure_walks(walks, 0, 30);
     make_stores(64, 1);
     measure(walks, 2, STORES, 60, took);
-    print_line("walk, 64 records in 3,072 cells", took, 2);
+    print_line("walk, 64 records in all the cells", took, 2);
     measure_diagrams("check of a diagram", checks);
     measure_diagrams("tabulate a diagram", tabulates);
     measure_diagrams("build of a table", builds);

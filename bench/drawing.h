@@ -2,9 +2,11 @@
 #ifndef DRAWING_H
 #define DRAWING_H
 
+#include "cells.h"
+
 #include <stdint.h>
 
-enum { FLAGS = 10, ROWS = 1024, WIDTH = 3, RECORDS = 1024, CELLS = WIDTH * RECORDS };
+enum { FLAGS = 10, ROWS = 1024 };
 
 // The rising order.
 extern const uint8_t rising_order[10];

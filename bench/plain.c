@@ -1,8 +1,10 @@
 #include "plain.h"
 
+#include "cells.h"
+
 #include <string.h>
 
-enum { MOST_FLAGS = 10, WIDTH = 3, RECORDS = 1024, HEADS = 4096 };
+enum { MOST_FLAGS = 10, HEADS = 4096 };
 
 static unsigned hash(unsigned flag, unsigned low, unsigned high) { return (flag * 349 + low + high * 633) % HEADS; }
 

@@ -1,8 +1,10 @@
 #include "search.h"
 
+#include "cells.h"
+
 #include <string.h>
 
-enum { MOST_FLAGS = 10, SETS = 1 << MOST_FLAGS, WIDTH = 3, RECORDS = 1024, MOST_WAYS = SETS / 2, WAY_HEADS = 1024, HEADS = 4096 };
+enum { MOST_FLAGS = 10, SETS = 1 << MOST_FLAGS, MOST_WAYS = SETS / 2, WAY_HEADS = 1024, HEADS = 4096 };
 
 // Way i with one flag more, at place p, fixed to 0; fixed to 1 it is 2^p on.
 static unsigned widen(unsigned i, unsigned p) { return i + (i >> p << p); }
