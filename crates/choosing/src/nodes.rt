@@ -45,25 +45,16 @@ pub fn choose_nodes(
     let top = earlier(levels, cells, f, earlier(levels, cells, g, h));
     let flag = cells::flag_at(cells, top - 2);
     let next = levels.level(flag) + 1;
-    let f_by = both_branches(cells, flag, f);
-    let g_by = both_branches(cells, flag, g);
-    let h_by = both_branches(cells, flag, h);
-    let first = choose_nodes(levels, next, f_by.no, g_by.no, h_by.no, cells, index, used);
-    let lower = first.found;
+    let fs = both_branches(cells, flag, f);
+    let gs = both_branches(cells, flag, g);
+    let hs = both_branches(cells, flag, h);
+    let no = choose_nodes(levels, next, fs.no, gs.no, hs.no, cells, index, used);
+    let lower = no.found;
     match lower {
-        Found::Full => first,
+        Found::Full => no,
         Found::At(low) => {
-            let second = choose_nodes(
-                levels,
-                next,
-                f_by.yes,
-                g_by.yes,
-                h_by.yes,
-                cells,
-                index,
-                first.used,
-            );
-            unique::make_above(cells, index, flag, low, second)
+            let yes = choose_nodes(levels, next, fs.yes, gs.yes, hs.yes, cells, index, no.used);
+            unique::make_above(cells, index, flag, low, yes)
         }
     }
 }

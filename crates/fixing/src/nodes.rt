@@ -32,22 +32,13 @@ pub fn fix_node(
     }
     let asked = cells::flag_at(cells, m - 2);
     let by = both_branches(cells, asked, m);
-    let first = fix_node(levels, flag, value, own + 1, by.no, cells, index, used);
-    let lower = first.found;
+    let no = fix_node(levels, flag, value, own + 1, by.no, cells, index, used);
+    let lower = no.found;
     match lower {
-        Found::Full => first,
+        Found::Full => no,
         Found::At(low) => {
-            let second = fix_node(
-                levels,
-                flag,
-                value,
-                own + 1,
-                by.yes,
-                cells,
-                index,
-                first.used,
-            );
-            unique::make_above(cells, index, asked, low, second)
+            let yes = fix_node(levels, flag, value, own + 1, by.yes, cells, index, no.used);
+            unique::make_above(cells, index, asked, low, yes)
         }
     }
 }

@@ -34,24 +34,15 @@ pub fn join_nodes(
     let top = earlier(levels, cells, f, g);
     let flag = cells::flag_at(cells, top - 2);
     let next = levels.level(flag) + 1;
-    let f_by = both_branches(cells, flag, f);
-    let g_by = both_branches(cells, flag, g);
-    let first = join_nodes(levels, code, next, f_by.no, g_by.no, cells, index, used);
-    let lower = first.found;
+    let fs = both_branches(cells, flag, f);
+    let gs = both_branches(cells, flag, g);
+    let no = join_nodes(levels, code, next, fs.no, gs.no, cells, index, used);
+    let lower = no.found;
     match lower {
-        Found::Full => first,
+        Found::Full => no,
         Found::At(low) => {
-            let second = join_nodes(
-                levels,
-                code,
-                next,
-                f_by.yes,
-                g_by.yes,
-                cells,
-                index,
-                first.used,
-            );
-            unique::make_above(cells, index, flag, low, second)
+            let yes = join_nodes(levels, code, next, fs.yes, gs.yes, cells, index, no.used);
+            unique::make_above(cells, index, flag, low, yes)
         }
     }
 }
