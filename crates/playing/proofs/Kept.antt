@@ -20,9 +20,9 @@ use Rattle.store.specs.State.{stateOf}
 use Rattle.history.specs.Request.{askedBy}
 use Rattle.history.specs.declared.requests.Request.{Request}
 use Rattle.playing.specs.Coded.{givenAt}
-use Rattle.playing.specs.Noted.{fedPlayed, emptyBook}
+use Rattle.playing.specs.Noted.{emptyBook}
 use Rattle.playing.specs.Played.{CodedFrom}
-use Rattle.playing.specs.Kept.{BeginsFit, PlayKept}
+use Rattle.playing.specs.Kept.{BeginsFit, RunKept, PlayKept}
 use Rattle.playing.proofs.Read.{plays-fed}
 use Rattle.playing.proofs.playing.play.Reads as play
 use Rattle.playing.proofs.playing.play.Kinds as kinds
@@ -45,10 +45,15 @@ begins w c b b′ (x ∷ xs) s s′ d h (y, _) (m, _) f =
 pub kept : PlayKept
 kept w made s s′ c b a d b′ a′ p h f =
     let first = begins w c b b′ (p .calls) s s′ d (omega (arith, p .count)) (p .coded) (p .made-so) f in
-    subst (λ (es : List Fed). AfterList s′ d emptyBook es) (plays-fed p) (demand3 s s′ c d emptyBook (p .calls) (p .made-so) first)
+    let e = plays-fed p in
+    record {
+      fed = sym e;
+      begins = subst BeginsOpen e first;
+      after = subst (λ (es : List Fed). AfterList s′ d emptyBook es) e (demand3 s s′ c d emptyBook (p .calls) (p .made-so) first);
+    }
 
 -- so it is of whatever the contract of `play` says of a run: its arguments a, its result r, and what is lent as it leaves it
 pub play-kept : (κs : Lfts 4) (a : Dens κs kinds.ps) (r : resT kinds.r κs .Denot) (s : AtExit (endedOf 4 kinds.ps kinds.r) κs) (h : play.Learnt κs a r s)
     → 0 < r .made → BeginsFit (now (a .1 .0)) (now (a .1 .1 .0))
-    → AfterList (stateOf (r .store)) (now (s .1 .1 .0)) emptyBook (fedPlayed (now (a .1 .0)) (now (s .1 .1 .1 .1 .0)) (r .made))
+    → RunKept (now (a .1 .0)) (now (s .1 .1 .1 .1 .0)) (r .made) (h .1 .calls) (stateOf (r .store)) (now (s .1 .1 .0))
 play-kept κs a r s h made f = kept _ _ _ _ _ _ _ _ _ _ (h .1) made f

@@ -20,7 +20,7 @@ abbrev pub node : ℕ → Node
 node m = record { number = m }
 
 -- the call of a kind, 0 to 6 and any other, with its arguments; of the first argument a join takes the last eight bits. The second of tabulate is how many of
--- the lent bytes it is given.
+-- the lent bytes it is given, or all where there are fewer.
 abbrev pub requestBy : ℕ → ℕ → ℕ → ℕ → Request
 requestBy kind x y z =
     cond (eqb kind 0) the-request.Open

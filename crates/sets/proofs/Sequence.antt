@@ -20,7 +20,7 @@ use Rattle.theory.proofs.Tests.{keep-in, in-keep}
 use Rattle.theory.proofs.Perm.{Within}
 use Rattle.theory.proofs.Least.{pairwise-append, Rising, rising-from, rising-keep}
 use Rattle.theory.proofs.Scan.{at-in}
-use Rattle.sets.specs.Sequence.{key, test, InSequence}
+use Rattle.sets.specs.Sequence.{key, test, InSequence, TestTells}
 use Rattle.sets.specs.Post.{SetAt}
 use Rattle.sets.proofs.Rising.{Rises, length-is, rises, exact}
 use Rattle.sets.proofs.Size.{size-most, within, whole}
@@ -159,9 +159,13 @@ is-list l t =
     (λ x m. let h = exact l t .sound x m in in-of-sizes x h (below 11) (in-below (omega (arith, size-most 10 x (omega arith) h))))
     (λ x m. exact l t .whole x (of-sizes-in (below 11) x m .0))
 
+pub test-tells : TestTells
+test-tells l t = (in-sequence l t, is-list l t)
+
 -- ---- an entry of a table that passes
 
 pub entry-is : (l : List ℕ) → test l ≡ true → (i : ℕ) → i < 1024 → SetAt i (getD l i 0)
 unfolding setAt
 entry-is l t i h =
-    record { is = ap (λ (m : List ℕ). getD m i 0) (is-list l t); small = small l t i h; sequence = subst InSequence (is-list l t) (in-sequence l t) }
+    let (sequence, same) = test-tells l t in
+    record { is = ap (λ (m : List ℕ). getD m i 0) same; small = small l t i h; sequence = subst InSequence same sequence }

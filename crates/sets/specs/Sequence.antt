@@ -10,7 +10,7 @@ use lib.Bits.{bitAnd}
 use lib.Dec.{ltb, eqb}
 use lib.ListN.{length, getD}
 use Rattle.rule.specs.Tests.{each}
-use Rattle.rule.specs.Sets.{setSize}
+use Rattle.rule.specs.Sets.{setSize, sets}
 
 -- what the list rises by: a set's size, and then its number
 unfoldable pub key : ℕ → ℕ
@@ -35,3 +35,7 @@ pub record InSequence (l : List ℕ) : Type 0 where
   pub sizes : (i j : ℕ) → i ≤ j → j < 1024 → setSize (getD l i 0) ≤ setSize (getD l j 0)
   -- and a proper subset of a set stands before it
   pub subsets : (i x : ℕ) → i < 1024 → x < 1024 → bitAnd x (getD l i 0) ≡ x → x ≢ getD l i 0 → (j : ℕ) × (j < i) × (getD l j 0 ≡ x)
+
+-- what passes the test is in sequence, and is the definition's list: so the one test of the constant table tells it all
+abbrev pub TestTells : Type 0
+TestTells = (l : List ℕ) → test l ≡ true → InSequence l × (l ≡ sets)

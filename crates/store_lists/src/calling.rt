@@ -10,11 +10,15 @@ use playing::NOTE;
 use playing::play;
 use rule::Order;
 use store::Store;
+use words::lent::each_byte_is;
 use words::print;
 use words::read::byte;
 
 // The bytes that a tabulate is lent at most: one more than a table has rows.
 const BYTES: usize = 1025;
+
+// What they are lent with.
+const JUNK: u8 = 9;
 
 // What a call answered, and the state that it left.
 struct Reached {
@@ -37,7 +41,7 @@ fn told(s: Session, words: &[u16; CALL], cells: &mut [u16], bytes: &mut [u8; BYT
 
 // A call that is no tabulate.
 fn told_alone(s: Session, words: &[u16; CALL], cells: &mut [u16]) -> Reached {
-    let mut bytes = [9u8; BYTES];
+    let mut bytes = [JUNK; BYTES];
     told(s, words, cells, &mut bytes)
 }
 
@@ -142,18 +146,6 @@ fn make(s: Session, text: &[u8], cells: &mut [u16], command: u8) -> Session {
     after
 }
 
-// Whether each byte still has the 9 that it was lent with.
-fn as_lent(bytes: &[u8; BYTES]) -> bool {
-    let mut i = 0;
-    while i < BYTES {
-        if bytes[i] != 9 {
-            return false;
-        }
-        i += 1;
-    }
-    true
-}
-
 // The first so many rows of these.
 fn first_rows(bytes: &[u8], length: u16) {
     let end = length as usize;
@@ -173,7 +165,7 @@ fn table(bytes: &[u8; BYTES], length: u16) {
 // A refused one: its number, and whether it altered lent bytes.
 fn refused_table(number: u16, bytes: &[u8; BYTES]) {
     print::number(b"refused", number);
-    if as_lent(bytes) {
+    if each_byte_is(bytes, JUNK) {
         print::text(b" bytes kept");
     } else {
         print::text(b" bytes lost");
@@ -183,7 +175,7 @@ fn refused_table(number: u16, bytes: &[u8; BYTES]) {
 // t A BYTES
 fn tabulate(s: Session, text: &[u8], cells: &mut [u16]) -> Session {
     let words = asked(s, text, b't');
-    let mut bytes = [9u8; BYTES];
+    let mut bytes = [JUNK; BYTES];
     let told = told(s, &words, cells, &mut bytes);
     let number = told.number;
     if number == 0 {
