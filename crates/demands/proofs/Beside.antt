@@ -21,7 +21,7 @@ use Rattle.rule.specs.Results.{constantTable, Making, flag, join, choose, fix, 
 use Rattle.rule.specs.Refusals.{Row, refusal, openRows, constantRows, makingRows}
 use Rattle.rule.specs.Reply.{reply, Accepted, leaves}
 use Rattle.rule.specs.Calls.{State, withUsed, Open, Constant, Holds, HoldsOr, Make}
-use Rattle.rule.specs.History.{Asked, open-call, constant-call, making-call, tabulate-call, walk-call, Call, MeetsBy, Calls, Fed, feed, OpensBy, BeginsOpen, Book, lookup, inBook, isThere, ruleAt, madeInBook, writeAt, enterBy, enter, bookOf}
+use Rattle.rule.specs.History.{Asked, open-call, constant-call, making-call, query-call, Call, MeetsBy, Calls, Fed, feed, OpensBy, BeginsOpen, Book, lookup, inBook, isThere, ruleAt, madeInBook, writeAt, enterBy, enter, bookOf}
 use Rattle.rule.specs.Demands.{Agrees, AgreesThroughout}
 use Rattle.rule.proofs.Book.{refused-silent}
 use Rattle.theory.proofs.Tests.{and-split}
@@ -292,16 +292,14 @@ step : {s : State} {c : List ℕ} {b : Book} (q : Asked) (x : Call) → MeetsBy 
 step {c} {b} (open-call given) x y a = open-step given c x b y (λ _. base a)
 step (constant-call v) x y a = constant-step v x y a
 step (making-call m) x y a = making-step m x y a
-step (tabulate-call m) x (y, e) a = silent (tabulate-call m) x (y .state) e refl a
-step (walk-call m row) x (y, e) a = silent (walk-call m row) x (y .state) e refl a
+step (query-call q) x (y, e) a = silent (query-call q) x (y .state) e refl a
 
 -- from an accepted open, whatever was before
 first-step : (s : State) (c : List ℕ) (b : Book) (q : Asked) (x : Call) → MeetsBy q s c x → OpensBy q (x .answer) → Step b q x
 first-step s c b (open-call given) x y h = open-step given c x b y (λ d. absurd (d h))
 first-step s c b (constant-call v) x y h = absurd h
 first-step s c b (making-call m) x y h = absurd h
-first-step s c b (tabulate-call m) x y h = absurd h
-first-step s c b (walk-call m row) x y h = absurd h
+first-step s c b (query-call q) x y h = absurd h
 
 pub steps : {s s′ : State} {c d : List ℕ} {b : Book} (xs : List Call) → Calls s c xs s′ d → After s c b
     → After s′ d (bookOf b (feed xs)) × AgreesThroughout b (feed xs)

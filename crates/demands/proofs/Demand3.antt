@@ -74,21 +74,21 @@ module _ {s : State} {c : List ℕ} {b : Book} (a : After s c b) (m : ℕ) (t : 
   tabulated : (bytes after : List ℕ) (r : Reply) (s′ : State) → Tabulate s c m bytes r s′ after → Accepted r → after ≡ t
   tabulated bytes after r s′ x h =
       let rows = tabulateRows (s .n) (s .places) c (s .used) m bytes in
-      let z = accepted-zero (refusal rows) [] (x .tabulates .answer) h in
+      let z = accepted-zero (refusal rows) [] (x .asks .answer) h in
       let (few, (_, (o, _))) = passed rows refl z in
-      x .tabulates .bytes-are ∙ ap (λ (k : ℕ). leaves k (tableOf (s .n) c m) bytes) z ∙ node-rule few o
+      x .asks .bytes-are ∙ ap (λ (k : ℕ). leaves k (tableOf (s .n) c m) bytes) z ∙ node-rule few o
 
   walked : (row v : ℕ) (more : List ℕ) (r : Reply) (s′ : State) → Walk s c m row r s′ → Gives r (v ∷ more) → v ≡ getD t row 0
   walked row v more r s′ x g =
       let rows = walkRows (s .n) (s .places) c (s .used) m row in
-      let (z, e) = accepted-reply (refusal rows) (x .walks .answer) g in
+      let (z, e) = accepted-reply (refusal rows) (x .asks .answer) g in
       let (few, (o, (_, (_, (_, (h, _)))))) = passed rows refl z in
       let v-is : v ≡ walk c m row = cc in
       v-is ∙ sym (table-row (s .n) c m row (leb-false (2 ^ s .n) row h)) ∙ ap (λ (u : List ℕ). getD u row 0) (node-rule few o)
 
   there : (bytes after : List ℕ) (r : Reply) (s′ : State) → Tabulate s c m bytes r s′ after → (numberOf r ≢ 6) × (numberOf r ≢ 7)
   there bytes after r s′ x =
-      let e = ap numberOf (x .tabulates .answer) ∙ number-of (refusal (tabulateRows (s .n) (s .places) c (s .used) m bytes)) [] in
+      let e = ap numberOf (x .asks .answer) ∙ number-of (refusal (tabulateRows (s .n) (s .places) c (s .used) m bytes)) [] in
       let h = tabulate-le m t bytes a p in
       (λ q. omega arith, λ q. omega arith)
 

@@ -4,12 +4,14 @@ use mathlib.Core.Path.{_≡_}
 use mathlib.Core.List.{List}
 use Prim.Native.Nat.{ℕ}
 use lib.ListN.{take, drop}
-use Rattle.rule.specs.Results.{flag, join, choose, fix}
+use Rattle.rule.specs.Results.{flag, join, choose, fix, Query as Asking, tabulating, walking}
 use Rattle.rule.specs.Reply.{Reply}
 use Rattle.rule.specs.Answers.{doneReply, madeReply, saidReply}
-use Rattle.rule.specs.Calls.{State}
-use Rattle.rule.specs.History.{Asked, open-call, constant-call, making-call, tabulate-call, walk-call, Call, Meets}
+use Rattle.rule.specs.Calls.{State, Ask}
+use Rattle.rule.specs.History.{Asked, open-call, constant-call, making-call, query-call, Call, Meets}
 use Rattle.store.specs.State.{stateOf}
+use Rattle.history.specs.declared.requests.Query.{Query}
+use Rattle.history.specs.declared.requests.Query.the-variants as the-query
 use Rattle.history.specs.declared.requests.Request.{Request}
 use Rattle.history.specs.declared.requests.Request.the-variants as the-request
 use Rattle.history.specs.declared.stepping.Answer.{Answer}
@@ -17,6 +19,11 @@ use Rattle.history.specs.declared.stepping.Answer.the-variants as the-an
 use Rattle.history.specs.declared.stepping.Reached.{Reached}
 
 -- ---- what is asked
+
+-- the query of rule's Results.antt that a query of the code is
+abbrev pub queryOf : Query → Asking
+queryOf (the-query.Tabulate m length) = tabulating (m .number)
+queryOf (the-query.Walk m row) = walking (m .number) row
 
 -- the call that a request asks for, where open is given this state
 abbrev pub askedBy : Request → State → Asked
@@ -26,10 +33,14 @@ askedBy (the-request.Flag i) given = making-call (flag i)
 askedBy (the-request.Join code f g) given = making-call (join code (f .number) (g .number))
 askedBy (the-request.Choose f g h) given = making-call (choose (f .number) (g .number) (h .number))
 askedBy (the-request.Fix m i b) given = making-call (fix (m .number) i b)
-askedBy (the-request.Tabulate m length) given = tabulate-call (m .number)
-askedBy (the-request.Walk m row) given = walk-call (m .number) row
+askedBy (the-request.Ask q) given = query-call (queryOf q)
 
--- how many of the bytes, from the first on, a call is lent (all of them, where there are fewer): tabulate as many as the request says, any other none
+-- how many of the bytes, from the first on, a query is lent (all of them, where there are fewer): tabulate as many as it says
+abbrev pub queryPart : Query → ℕ
+queryPart (the-query.Tabulate m length) = length
+queryPart (the-query.Walk m row) = 0
+
+-- any other call none
 abbrev pub part : Request → ℕ
 part the-request.Open = 0
 part (the-request.Constant v) = 0
@@ -37,8 +48,7 @@ part (the-request.Flag i) = 0
 part (the-request.Join code f g) = 0
 part (the-request.Choose f g h) = 0
 part (the-request.Fix m i b) = 0
-part (the-request.Tabulate m length) = length
-part (the-request.Walk m row) = 0
+part (the-request.Ask q) = queryPart q
 
 -- ---- what is answered
 
@@ -57,7 +67,12 @@ answerKind (the-answer.Done a) = done-kind
 answerKind (the-answer.Made a) = made-kind
 answerKind (the-answer.Said a) = said-kind
 
--- the kind that belongs to a request
+-- the kind that belongs to a query
+abbrev pub queryKind : Query → Kind
+queryKind (the-query.Tabulate m length) = done-kind
+queryKind (the-query.Walk m row) = said-kind
+
+-- and to a request
 abbrev pub requestKind : Request → Kind
 requestKind the-request.Open = done-kind
 requestKind (the-request.Constant v) = made-kind
@@ -65,10 +80,15 @@ requestKind (the-request.Flag i) = made-kind
 requestKind (the-request.Join code f g) = made-kind
 requestKind (the-request.Choose f g h) = made-kind
 requestKind (the-request.Fix m i b) = made-kind
-requestKind (the-request.Tabulate m length) = done-kind
-requestKind (the-request.Walk m row) = said-kind
+requestKind (the-request.Ask q) = queryKind q
 
 -- ---- the call
+
+-- one query, from state s, cells c and bytes b
+pub record Answers (q : Query) (s : State) (c b : List ℕ) (r : Reached) (b′ : List ℕ) : Type 0 where
+  pub met : Ask s c (queryOf q) (take (queryPart q) b) (answerReply (r .answer)) (stateOf (r .store)) (take (queryPart q) b′)
+  pub kind : answerKind (r .answer) ≡ queryKind q
+  pub behind : drop (queryPart q) b′ ≡ drop (queryPart q) b
 
 -- the call as it was made: it reached r, and left cells d and, of bytes that were b, b′
 abbrev pub callOf : Request → State → List ℕ → Reached → List ℕ → List ℕ → Call

@@ -1,5 +1,18 @@
 use rule::Node;
 
+// A call that makes no rule, with its arguments.
+pub enum Query {
+    // Into so many of the lent bytes, from the first on.
+    Tabulate {
+        rule: Node,
+        length: u16,
+    },
+    Walk {
+        rule: Node,
+        row: u16,
+    },
+}
+
 // One of the eight calls with its arguments. (The state that open is given stands beside it: an enum holds no array.)
 pub enum Request {
     Open,
@@ -20,13 +33,5 @@ pub enum Request {
         flag: u16,
         value: u16,
     },
-    // Into so many of the lent bytes, from the first on.
-    Tabulate {
-        rule: Node,
-        length: u16,
-    },
-    Walk {
-        rule: Node,
-        row: u16,
-    },
+    Ask(Query),
 }

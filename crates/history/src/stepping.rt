@@ -1,3 +1,4 @@
+use crate::requests::Query;
 use crate::requests::Request;
 use rule::Done;
 use rule::Made;
@@ -12,7 +13,7 @@ ghost use lib.ListN.{take, drop};
 ghost use Rattle.rule.specs.Answers.{doneReply};
 ghost use Rattle.rule.specs.Calls.{Tabulate};
 ghost use Rattle.store.specs.State.{stateOf};
-ghost use Rattle.history.specs.Request.{Steps};
+ghost use Rattle.history.specs.Request.{Answers, Steps};
 
 // What a call answers, whichever it is.
 pub enum Answer {
@@ -75,6 +76,16 @@ fn tabulated(store: Store, cells: &[u16], rule: Node, length: u16, bytes: &mut [
     store.tabulate(cells, rule, &mut bytes[0..end])
 }
 
+// Make one call that makes no rule.
+fn ask(store: Store, cells: &[u16], query: Query, bytes: &mut [u8]) -> Reached
+    ensures { λ r. ⌜ Answers query (stateOf store) (now (cells .entry)) (now (bytes .entry)) r (now (bytes .exit)) ⌝ }
+{
+    match query {
+        Query::Tabulate { rule, length } => done(tabulated(store, cells, rule, length, bytes)),
+        Query::Walk { rule, row } => said(store.walk(cells, rule, row)),
+    }
+}
+
 // Make one call: open is given the state `given`, any other the state `store`.
 pub fn step(
     store: Store,
@@ -100,7 +111,6 @@ pub fn step(
             third,
         } => made(store.choose(cells, first, second, third)),
         Request::Fix { rule, flag, value } => made(store.fix(cells, rule, flag, value)),
-        Request::Tabulate { rule, length } => done(tabulated(store, cells, rule, length, bytes)),
-        Request::Walk { rule, row } => said(store.walk(cells, rule, row)),
+        Request::Ask(query) => ask(store, cells, query, bytes),
     }
 }

@@ -7,11 +7,11 @@ use native.Mathlib.Omega.{arith}
 use lib.ListN.{length, getD, drop}
 use lib.Seq.{getD-drop, drop-drop}
 use Rattle.rule.specs.Walk.{walk}
-use Rattle.rule.specs.Results.{madeIn, madeNode}
+use Rattle.rule.specs.Results.{madeIn, madeNode, tabulating, walking}
 use Rattle.rule.specs.Refusals.{refusal, openRows, constantRows, makingRows, tabulateRows, walkRows}
 use Rattle.rule.specs.Reply.{Reply, reply, numberOf}
 use Rattle.rule.specs.Calls.{State}
-use Rattle.rule.specs.History.{Asked, open-call, constant-call, making-call, tabulate-call, walk-call, Call, MeetsBy, Calls, Fed, fedOf, feed}
+use Rattle.rule.specs.History.{Asked, open-call, constant-call, making-call, query-call, Call, MeetsBy, Calls, Fed, fedOf, feed}
 use Rattle.playing.specs.Coded.{askedAt}
 use Rattle.playing.specs.Noted.{firstOf, notes, replyBy, fedAt, fedFrom, fedPlayed}
 use Rattle.playing.specs.Played.{CodedFrom, Plays}
@@ -32,8 +32,10 @@ reply-read s c (open-call given) x y = none-read (refusal (openRows (given .n) (
 reply-read s c (constant-call v) x y = one-read (refusal (constantRows (s .n) (s .places) c (s .used) v)) v (y .answer)
 reply-read s c (making-call m) x y =
     one-read (refusal (makingRows (s .n) (s .places) c (s .used) m)) (madeNode (s .n) (s .places) c (s .used) (madeIn (s .n) c m)) (y .answer)
-reply-read s c (tabulate-call m) x (y, _) = none-read (refusal (tabulateRows (s .n) (s .places) c (s .used) m (x .lent))) (y .tabulates .answer)
-reply-read s c (walk-call m row) x (y, _) = one-read (refusal (walkRows (s .n) (s .places) c (s .used) m row)) (walk c m row) (y .walks .answer)
+reply-read s c (query-call (tabulating m)) x (y, _) =
+    none-read (refusal (tabulateRows (s .n) (s .places) c (s .used) m (x .lent))) (y .asks .answer)
+reply-read s c (query-call (walking m row)) x (y, _) =
+    one-read (refusal (walkRows (s .n) (s .places) c (s .used) m row)) (walk c m row) (y .asks .answer)
 
 -- ---- the calls of a list
 

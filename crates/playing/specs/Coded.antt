@@ -9,6 +9,7 @@ use Rattle.rule.specs.Calls.{State}
 use Rattle.rule.specs.History.{Asked}
 use Rattle.rule.specs.declared.node.Node.{Node}
 use Rattle.history.specs.Request.{askedBy, part}
+use Rattle.history.specs.declared.requests.Query.the-variants as the-query
 use Rattle.history.specs.declared.requests.Request.{Request}
 use Rattle.history.specs.declared.requests.Request.the-variants as the-request
 
@@ -29,8 +30,8 @@ requestBy kind x y z =
     (cond (eqb kind 3) (the-request.Join (x % 256) (node y) (node z))
     (cond (eqb kind 4) (the-request.Choose (node x) (node y) (node z))
     (cond (eqb kind 5) (the-request.Fix (node x) y z)
-    (cond (eqb kind 6) (the-request.Tabulate (node x) y)
-    (the-request.Walk (node x) y)))))))
+    (cond (eqb kind 6) (the-request.Ask (the-query.Tabulate (node x) y))
+    (the-request.Ask (the-query.Walk (node x) y))))))))
 
 -- the call that is coded from a word on
 unfoldable pub requestAt : List ℕ → ℕ → Request

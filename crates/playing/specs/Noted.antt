@@ -3,8 +3,9 @@
 use mathlib.Core.List.{List, [], _∷_}
 use Prim.Native.Nat.{ℕ, zero, suc, _+_, _*_}
 use lib.ListN.{getD}
+use Rattle.rule.specs.Results.{Query, tabulating, walking}
 use Rattle.rule.specs.Reply.{Reply, accepted, refused, reply, numberOf}
-use Rattle.rule.specs.History.{Asked, open-call, constant-call, making-call, tabulate-call, walk-call, Call, Fed, Book, bookOf}
+use Rattle.rule.specs.History.{Asked, open-call, constant-call, making-call, query-call, Call, Fed, Book, bookOf}
 use Rattle.playing.specs.Coded.{askedAt}
 
 -- the words of one answer
@@ -29,13 +30,17 @@ notes (x ∷ xs) = numberOf (x .answer) ∷ firstOf (x .answer) ∷ notes xs
 
 -- ---- from words to answers
 
+-- the values of an accepted query whose first one, where it hands one back, is this
+abbrev pub valuesBy : Query → ℕ → List ℕ
+valuesBy (tabulating m) value = []
+valuesBy (walking m row) value = value ∷ []
+
 -- the reply to what was asked that a number and a value note: whether a call hands back a value is known from what it is
 abbrev pub replyBy : Asked → ℕ → ℕ → Reply
 replyBy (open-call given) number value = reply number []
 replyBy (constant-call v) number value = reply number (value ∷ [])
 replyBy (making-call x) number value = reply number (value ∷ [])
-replyBy (tabulate-call m) number value = reply number []
-replyBy (walk-call m row) number value = reply number (value ∷ [])
+replyBy (query-call q) number value = reply number (valuesBy q value)
 
 -- what the book is fed of call k: what its words ask, and the answer that is noted for it
 abbrev pub fedAt : List ℕ → List ℕ → ℕ → Fed

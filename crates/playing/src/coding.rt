@@ -1,4 +1,5 @@
 // The words of a call: what is asked, or for open the state that it is given.
+use history::Query;
 use history::Request;
 use rule::Node;
 use rule::Order;
@@ -43,14 +44,14 @@ fn request_by(kind: u16, x: u16, y: u16, z: u16) -> Request
             flag: y,
             value: z,
         },
-        6 => Request::Tabulate {
+        6 => Request::Ask(Query::Tabulate {
             rule: Node { number: x },
             length: y,
-        },
-        _ => Request::Walk {
+        }),
+        _ => Request::Ask(Query::Walk {
             rule: Node { number: x },
             row: y,
-        },
+        }),
     }
 }
 

@@ -12,11 +12,11 @@ use Rattle.rule.specs.Tests.{among}
 use Rattle.rule.specs.Level.{size}
 use Rattle.rule.specs.Order.{flags, inPlaces, packed}
 use Rattle.rule.specs.Cells.{width}
-use Rattle.rule.specs.Walk.{walk, tableOf}
+use Rattle.rule.specs.Walk.{tableOf}
 use Rattle.rule.specs.Sound.{sound}
 use Rattle.rule.specs.Diagram.{diagram}
-use Rattle.rule.specs.Results.{Making, flag, join, choose, fix, madeIn, lacking, needed, rootBy, madeNode}
-use Rattle.rule.specs.Refusals.{refusal, buildRows, checkRows, walkRows, tabulateRows, openRows, constantRows, makingRows, packRows}
+use Rattle.rule.specs.Results.{Making, flag, join, choose, fix, madeIn, lacking, needed, rootBy, madeNode, Query, tabulating, walking, answered}
+use Rattle.rule.specs.Refusals.{refusal, buildRows, checkRows, queryRows, openRows, constantRows, makingRows, packRows}
 use Rattle.rule.specs.Reply.{Reply, reply, leaves}
 
 -- ---- single diagrams
@@ -41,14 +41,23 @@ pub record Build (n : ℕ) (t order c : List ℕ) (r : Reply) (d : List ℕ) : T
 abbrev pub Check : ℕ → List ℕ → List ℕ → ℕ → ℕ → Reply → Type 0
 Check n order c used root r = r ≡ reply (refusal (checkRows n order c used root)) (used ∷ [])
 
--- "A walk .. hands back the answer": of any node of sound cells, for one row
-pub record Walks (n : ℕ) (order c : List ℕ) (used m row : ℕ) (r : Reply) : Type 0 where
-  pub answer : r ≡ reply (refusal (walkRows n order c used m row)) (walk c m row ∷ [])
+-- what becomes of the bytes lent to a call that makes no rule, under a refusal's number: tabulate alone writes them
+abbrev pub lentAfter : ℕ → ℕ → List ℕ → Query → List ℕ → List ℕ
+lentAfter k n c (tabulating m) lent = leaves k (tableOf n c m) lent
+lentAfter k n c (walking m row) lent = lent
 
--- "tabulate a rule into lent bytes": any node of sound cells
-pub record Tabulates (n : ℕ) (order c : List ℕ) (used m : ℕ) (bytes : List ℕ) (r : Reply) (after : List ℕ) : Type 0 where
-  pub answer : r ≡ reply (refusal (tabulateRows n order c used m bytes)) []
-  pub bytes-are : after ≡ leaves (refusal (tabulateRows n order c used m bytes)) (tableOf n c m) bytes
+-- a call that makes no rule: "these .. take any node of sound cells"
+pub record Asks (n : ℕ) (order c : List ℕ) (used : ℕ) (q : Query) (lent : List ℕ) (r : Reply) (after : List ℕ) : Type 0 where
+  pub answer : r ≡ reply (refusal (queryRows n order c used q lent)) (answered n c q)
+  pub bytes-are : after ≡ lentAfter (refusal (queryRows n order c used q lent)) n c q lent
+
+-- "A walk .. hands back the answer": for one row; it is lent no bytes
+abbrev pub Walks : ℕ → List ℕ → List ℕ → ℕ → ℕ → ℕ → Reply → Type 0
+Walks n order c used m row r = Asks n order c used (walking m row) [] r []
+
+-- "tabulate a rule into lent bytes"
+abbrev pub Tabulates : ℕ → List ℕ → List ℕ → ℕ → ℕ → List ℕ → Reply → List ℕ → Type 0
+Tabulates n order c used m bytes r after = Asks n order c used (tabulating m) bytes r after
 
 -- ---- the store
 
@@ -62,15 +71,16 @@ pub record State : Type 0 where
 abbrev pub withUsed : State → ℕ → State
 withUsed s used = record { n = s .n; places = s .places; used = used }
 
--- the state "comes back" from walk as it was given
-pub record Walk (s : State) (c : List ℕ) (m row : ℕ) (r : Reply) (s′ : State) : Type 0 where
+-- the state "comes back" from a call that makes no rule as it was given
+pub record Ask (s : State) (c : List ℕ) (q : Query) (lent : List ℕ) (r : Reply) (s′ : State) (after : List ℕ) : Type 0 where
   pub state : s′ ≡ s
-  pub walks : Walks (s .n) (s .places) c (s .used) m row r
+  pub asks : Asks (s .n) (s .places) c (s .used) q lent r after
 
--- and from tabulate
-pub record Tabulate (s : State) (c : List ℕ) (m : ℕ) (bytes : List ℕ) (r : Reply) (s′ : State) (after : List ℕ) : Type 0 where
-  pub state : s′ ≡ s
-  pub tabulates : Tabulates (s .n) (s .places) c (s .used) m bytes r after
+abbrev pub Walk : State → List ℕ → ℕ → ℕ → Reply → State → Type 0
+Walk s c m row r s′ = Ask s c (walking m row) [] r s′ []
+
+abbrev pub Tabulate : State → List ℕ → ℕ → List ℕ → Reply → State → List ℕ → Type 0
+Tabulate s c m bytes r s′ after = Ask s c (tabulating m) bytes r s′ after
 
 -- "open: takes n and the order from the state it is given, with any used number, clears all the cells, and sets used to 0"
 pub record Open (s : State) (c : List ℕ) (r : Reply) (s′ : State) (d : List ℕ) : Type 0 where

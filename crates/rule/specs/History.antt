@@ -1,5 +1,5 @@
 -- Lists of store calls and the plain book beside them (document 01, "The book beside the store"). "Store calls that are added later join the list": one that
--- makes a rule is one more case of `Making` (Results.antt), any other of `Asked`.
+-- makes a rule is one more case of `Making`, "those that make no rule" of `Query` (both in Results.antt).
 -- Assumes nothing.
 use mathlib.Core.Path.{_≡_}
 use mathlib.Core.Bool.{Bool, true, false, cond}
@@ -8,9 +8,9 @@ use mathlib.Core.Option.{Option, none, some, Option·getD}
 use Prim.Native.Nat.{ℕ}
 use lib.Dec.{eqb}
 use Rattle.rule.specs.Tests.{each}
-use Rattle.rule.specs.Results.{constantTable, Making, rulesAmong, madeFrom}
+use Rattle.rule.specs.Results.{constantTable, Making, rulesAmong, madeFrom, Query}
 use Rattle.rule.specs.Reply.{Reply, accepted, refused, Accepted}
-use Rattle.rule.specs.Calls.{State, Open, Constant, Make, Tabulate, Walk}
+use Rattle.rule.specs.Calls.{State, Open, Constant, Make, Ask}
 
 -- ---- the list of calls
 
@@ -21,10 +21,10 @@ pub data Asked : Type 0 where
   constant-call : (v : ℕ) → Asked
   -- flag, join, choose, fix
   making-call : (x : Making) → Asked
-  tabulate-call : (m : ℕ) → Asked
-  walk-call : (m row : ℕ) → Asked
+  -- tabulate, walk
+  query-call : (q : Query) → Asked
 
--- a call as it was made: what was asked and lent, the answer, and what it left. Of the lent bytes only a tabulate's are spoken of: no other call is lent any.
+-- a call as it was made: what was asked and lent, the answer, and what it left. Of lent bytes only a query's are spoken of: no other call is lent any.
 pub record Call : Type 0 where
   pub asked : Asked
   pub lent : List ℕ
@@ -38,8 +38,7 @@ abbrev pub MeetsBy : Asked → State → List ℕ → Call → Type 0
 MeetsBy (open-call given) s c x = Open given c (x .answer) (x .state) (x .cells)
 MeetsBy (constant-call v) s c x = Constant s c v (x .answer) (x .state) (x .cells)
 MeetsBy (making-call y) s c x = Make s c y (x .answer) (x .state) (x .cells)
-MeetsBy (tabulate-call m) s c x = Tabulate s c m (x .lent) (x .answer) (x .state) (x .bytes) × (x .cells ≡ c)
-MeetsBy (walk-call m row) s c x = Walk s c m row (x .answer) (x .state) × (x .cells ≡ c)
+MeetsBy (query-call q) s c x = Ask s c q (x .lent) (x .answer) (x .state) (x .bytes) × (x .cells ≡ c)
 
 -- the call met its contract, where the last one left state s and cells c
 abbrev pub Meets : State → List ℕ → Call → Type 0
@@ -66,8 +65,7 @@ abbrev pub OpensBy : Asked → Reply → Type 0
 OpensBy (open-call given) r = Accepted r
 OpensBy (constant-call v) r = ⊥
 OpensBy (making-call x) r = ⊥
-OpensBy (tabulate-call m) r = ⊥
-OpensBy (walk-call m row) r = ⊥
+OpensBy (query-call q) r = ⊥
 
 -- it is of an accepted open
 abbrev pub Opens : Fed → Type 0
@@ -122,13 +120,12 @@ opened (accepted values) n b = record { n = n; rules = (0, constantTable n 0) �
 opened (refused k values) n b = b
 
 -- what an accepted call writes: "An accepted constant, flag, join, choose or fix writes a table at the node number handed back"; "Tabulate, walk .. write
--- nothing."
+-- nothing", and of calls that are added later "those that make no rule"
 abbrev pub enterBy : Book → Asked → Reply → Book
 enterBy b (open-call given) r = opened r (given .n) b
 enterBy b (constant-call v) r = writeMade r (some (constantTable (b .n) v)) b
 enterBy b (making-call x) r = writeMade r (madeInBook b x) b
-enterBy b (tabulate-call m) r = b
-enterBy b (walk-call m row) r = b
+enterBy b (query-call q) r = b
 
 -- the book "is fed each store call's arguments and its answer"
 abbrev pub enter : Book → Fed → Book

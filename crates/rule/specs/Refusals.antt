@@ -12,7 +12,7 @@ use Rattle.rule.specs.Order.{flags, fitOrder, packed}
 use Rattle.rule.specs.Cells.{fitCells, room}
 use Rattle.rule.specs.Sound.{sound}
 use Rattle.rule.specs.Diagram.{allReached}
-use Rattle.rule.specs.Results.{Making, flag, join, choose, fix, rulesAmong, madeIn, needed, free}
+use Rattle.rule.specs.Results.{Making, flag, join, choose, fix, rulesAmong, madeIn, needed, free, Query, tabulating, walking}
 
 -- a row of the table: whether it applies, and its number
 abbrev pub Row : Type 0
@@ -101,6 +101,11 @@ walkRows n o c used m r = flagCount n ∷ orderPlaces n o ∷ cells c ∷ record
 abbrev pub tabulateRows : ℕ → List ℕ → List ℕ → ℕ → ℕ → List ℕ → List Row
 tabulateRows n o c used m bytes =
     flagCount n ∷ tableLength n bytes ∷ orderPlaces n o ∷ cells c ∷ records n o c used ∷ node used m ∷ []
+
+-- those of a call that makes no rule, with the bytes that it is lent
+abbrev pub queryRows : ℕ → List ℕ → List ℕ → ℕ → Query → List ℕ → List Row
+queryRows n o c used (tabulating m) bytes = tabulateRows n o c used m bytes
+queryRows n o c used (walking m row) bytes = walkRows n o c used m row
 
 -- "open tests neither 6 nor 7"
 abbrev pub openRows : ℕ → List ℕ → List ℕ → List Row

@@ -1,4 +1,5 @@
--- The calls that make a rule, the tables that they make, and the records that a result needs (document 01, "The store" and "The book beside the store").
+-- The calls that make a rule, the tables that they make, and the records that a result needs; the calls that make none, and what they hand back (document 01,
+-- "The store" and "The book beside the store").
 -- Assumes nothing.
 use mathlib.Core.Bool.{true, false, not, cond}
 use mathlib.Core.List.{List, [], _∷_, map}
@@ -11,7 +12,7 @@ use Rattle.rule.specs.Table.{tabled, cofactor}
 use Rattle.rule.specs.Level.{nodesOf}
 use Rattle.rule.specs.Order.{flags}
 use Rattle.rule.specs.Cells.{room}
-use Rattle.rule.specs.Walk.{tableOf}
+use Rattle.rule.specs.Walk.{walk, tableOf}
 
 -- "the constant"
 abbrev pub constantTable : ℕ → ℕ → List ℕ
@@ -96,3 +97,17 @@ firstWith n c t (m ∷ ms) = elim (same (tableOf n c m) t) [ true ↦ m | false 
 abbrev pub madeNode : ℕ → List ℕ → List ℕ → ℕ → List ℕ → ℕ
 madeNode n order c used t =
     cond (eqb (needed n order c used t) 0) (firstWith n c t (below (used + 2))) (used + needed n order c used t + 1)
+
+-- ---- the calls that make no rule
+
+-- a call that makes no rule, and its arguments
+pub data Query : Type 0 where
+  -- "tabulate a rule into lent bytes"
+  tabulating : (m : ℕ) → Query
+  -- "or walk it for one row"
+  walking : (m row : ℕ) → Query
+
+-- the values that it hands back
+abbrev pub answered : ℕ → List ℕ → Query → List ℕ
+answered n c (tabulating m) = []
+answered n c (walking m row) = walk c m row ∷ []

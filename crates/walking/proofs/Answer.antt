@@ -45,17 +45,18 @@ module _ (n : ℕ) (o c : List ℕ) (used m row : ℕ) where
       record {
         answer = refused-reply k (walk c m row ∷ []) d
             ∙ ap (λ i. reply i (walk c m row ∷ [])) (e ∙ refused-more (cellRows n o c used) (node used m ∷ rowArgument n row ∷ []) (λ f. d (e ∙ f)));
+        bytes-are = refl;
       }
 
   module _ (t : Taken n o c used) where
     pub walk-far : used + 1 < m → Walks n o c used m row (refused 7 (0 ∷ []))
-    walk-far h = record { answer = rw (le-ltb _ _ (t .few), t .ordered, t .lent, t .is-sound, lt-ltb (used + 1) m h) }
+    walk-far h = record { answer = rw (le-ltb _ _ (t .few), t .ordered, t .lent, t .is-sound, lt-ltb (used + 1) m h); bytes-are = refl }
 
     pub walk-no-row : m ≤ used + 1 → 2 ^ n ≤ row → Walks n o c used m row (refused 9 (0 ∷ []))
-    walk-no-row h l = record { answer = rw (le-ltb _ _ (t .few), t .ordered, t .lent, t .is-sound, le-ltb (used + 1) m h, le-leb (2 ^ n) row l) }
+    walk-no-row h l = record { answer = rw (le-ltb _ _ (t .few), t .ordered, t .lent, t .is-sound, le-ltb (used + 1) m h, le-leb (2 ^ n) row l); bytes-are = refl }
 
     pub walk-says : m ≤ used + 1 → row < 2 ^ n → {x : ℕ} → x ≡ walk c m row → Walks n o c used m row (accepted (x ∷ []))
-    walk-says h l e = record { answer = rw (le-ltb _ _ (t .few), t .ordered, t .lent, t .is-sound, le-ltb (used + 1) m h, lt-leb (2 ^ n) row l, e) }
+    walk-says h l e = record { answer = rw (le-ltb _ _ (t .few), t .ordered, t .lent, t .is-sound, le-ltb (used + 1) m h, lt-leb (2 ^ n) row l, e); bytes-are = refl }
 
 -- ---- tabulate
 

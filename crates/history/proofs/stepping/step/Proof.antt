@@ -24,10 +24,9 @@ returns-6 : tie.Need-returns-6
 returns-6 c = rw (c .before .before .before .before .before .before .request5 .given .1, c .made5 .ensures .1, c .made5 .ensures .0) (record { met = c .before .before .before .fix .ensures; kind = refl; behind = refl })
 
 returns-7 : tie.Need-returns-7
-returns-7 c = rw (c .before .before .before .before .before .before .before .request6 .given .1, c .done2 .ensures .1, c .done2 .ensures .0) (record { met = (c .before .before .before .tabulated .ensures .0, refl); kind = refl; behind = c .before .before .before .tabulated .ensures .1 })
-
-returns-8 : tie.Need-returns-8
-returns-8 c = rw (c .before .before .before .before .request7 .given .1, c .said .ensures .1, c .said .ensures .0) (record { met = (c .before .walk .ensures, refl); kind = refl; behind = refl })
+returns-7 c =
+    let e = c .before .before .ask .ensures in
+    rw (c .before .before .before .before .before .before .request6 .given .1) (record { met = (e .met, refl); kind = e .kind; behind = e .behind })
 
 pub step-spec : {M : Type 1} → statement M
 step-spec =
@@ -53,10 +52,6 @@ step-spec =
     (λ c κs. search needs)
     (λ c. search needs)
     (λ c κs. search needs)
-    (λ c κs. search needs)
-    (λ c. search needs)
-    (λ c κs. search needs)
-    (λ c κs. search needs)
     (λ c. search needs)
     returns
     (λ c. search needs)
@@ -71,6 +66,4 @@ step-spec =
     returns-6
     (λ c. search needs)
     (λ c. search needs)
-    returns-7
-    (λ c. search needs)
-    returns-8)
+    returns-7)

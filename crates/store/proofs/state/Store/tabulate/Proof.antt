@@ -6,7 +6,7 @@ use Rattle.store.proofs.state.Store.tabulate.Statement.{statement}
 use Rattle.store.proofs.state.Store.tabulate.Tie as tie
 
 returns : tie.Need-returns
-returns c = record { state = refl; tabulates = c .before .before .tabulate .ensures }
+returns c = record { state = refl; asks = c .before .before .tabulate .ensures }
 
 pub tabulate-spec : {M : Type 1} → statement M
 tabulate-spec = tie.close (tie.spec (λ c κs. search needs) (λ c. search needs) returns)

@@ -6,7 +6,7 @@ use Rattle.store.proofs.state.Store.walk.Statement.{statement}
 use Rattle.store.proofs.state.Store.walk.Tie as tie
 
 returns : tie.Need-returns
-returns c = record { state = refl; walks = c .walk .ensures }
+returns c = record { state = refl; asks = c .walk .ensures }
 
 pub walk-spec : {M : Type 1} → statement M
 walk-spec = tie.close (tie.spec (λ c κs. search needs) returns)
