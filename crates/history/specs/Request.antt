@@ -4,12 +4,14 @@ use mathlib.Core.Path.{_≡_}
 use mathlib.Core.List.{List}
 use Prim.Native.Nat.{ℕ}
 use lib.ListN.{take, drop}
-use Rattle.rule.specs.Results.{flag, join, choose, fix, Query as Asking, tabulating, walking}
+use Rattle.rule.specs.Results.{Making as Makes, flag, join, choose, fix, Query as Asks, tabulating, walking}
 use Rattle.rule.specs.Reply.{Reply}
 use Rattle.rule.specs.Answers.{doneReply, madeReply, saidReply}
 use Rattle.rule.specs.Calls.{State, Ask}
 use Rattle.rule.specs.History.{Asked, open-call, constant-call, making-call, query-call, Call, Meets}
 use Rattle.store.specs.State.{stateOf}
+use Rattle.history.specs.declared.requests.Making.{Making}
+use Rattle.history.specs.declared.requests.Making.the-variants as the-making
 use Rattle.history.specs.declared.requests.Query.{Query}
 use Rattle.history.specs.declared.requests.Query.the-variants as the-query
 use Rattle.history.specs.declared.requests.Request.{Request}
@@ -20,8 +22,15 @@ use Rattle.history.specs.declared.stepping.Reached.{Reached}
 
 -- ---- what is asked
 
--- the query of rule's Results.antt that a query of the code is
-abbrev pub queryOf : Query → Asking
+-- a call that makes a rule with records, by its name in Results.antt
+abbrev pub makingOf : Making → Makes
+makingOf (the-making.Flag i) = flag i
+makingOf (the-making.Join code f g) = join code (f .number) (g .number)
+makingOf (the-making.Choose f g h) = choose (f .number) (g .number) (h .number)
+makingOf (the-making.Fix m i b) = fix (m .number) i b
+
+-- and one that makes none
+abbrev pub queryOf : Query → Asks
 queryOf (the-query.Tabulate m length) = tabulating (m .number)
 queryOf (the-query.Walk m row) = walking (m .number) row
 
@@ -29,10 +38,7 @@ queryOf (the-query.Walk m row) = walking (m .number) row
 abbrev pub askedBy : Request → State → Asked
 askedBy the-request.Open given = open-call given
 askedBy (the-request.Constant v) given = constant-call v
-askedBy (the-request.Flag i) given = making-call (flag i)
-askedBy (the-request.Join code f g) given = making-call (join code (f .number) (g .number))
-askedBy (the-request.Choose f g h) given = making-call (choose (f .number) (g .number) (h .number))
-askedBy (the-request.Fix m i b) given = making-call (fix (m .number) i b)
+askedBy (the-request.Make x) given = making-call (makingOf x)
 askedBy (the-request.Ask q) given = query-call (queryOf q)
 
 -- how many of the bytes, from the first on, a query is lent (all of them, where there are fewer): tabulate as many as it says
@@ -44,10 +50,7 @@ queryPart (the-query.Walk m row) = 0
 abbrev pub part : Request → ℕ
 part the-request.Open = 0
 part (the-request.Constant v) = 0
-part (the-request.Flag i) = 0
-part (the-request.Join code f g) = 0
-part (the-request.Choose f g h) = 0
-part (the-request.Fix m i b) = 0
+part (the-request.Make x) = 0
 part (the-request.Ask q) = queryPart q
 
 -- ---- what is answered
@@ -76,10 +79,7 @@ queryKind (the-query.Walk m row) = said-kind
 abbrev pub requestKind : Request → Kind
 requestKind the-request.Open = done-kind
 requestKind (the-request.Constant v) = made-kind
-requestKind (the-request.Flag i) = made-kind
-requestKind (the-request.Join code f g) = made-kind
-requestKind (the-request.Choose f g h) = made-kind
-requestKind (the-request.Fix m i b) = made-kind
+requestKind (the-request.Make x) = made-kind
 requestKind (the-request.Ask q) = queryKind q
 
 -- ---- the call

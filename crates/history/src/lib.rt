@@ -2,6 +2,7 @@
 mod requests;
 mod stepping;
 
+pub use requests::Making;
 pub use requests::Query;
 pub use requests::Request;
 pub use stepping::Answer;

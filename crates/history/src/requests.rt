@@ -1,22 +1,7 @@
 use rule::Node;
 
-// A call that makes no rule, with its arguments.
-pub enum Query {
-    // Into so many of the lent bytes, from the first on.
-    Tabulate {
-        rule: Node,
-        length: u16,
-    },
-    Walk {
-        rule: Node,
-        row: u16,
-    },
-}
-
-// One of the eight calls with its arguments. (The state that open is given stands beside it: an enum holds no array.)
-pub enum Request {
-    Open,
-    Constant(u16),
+// A call that makes a rule with records, with its arguments.
+pub enum Making {
     Flag(u16),
     Join {
         code: u8,
@@ -33,5 +18,19 @@ pub enum Request {
         flag: u16,
         value: u16,
     },
+}
+
+// A call that makes no rule, with its arguments.
+pub enum Query {
+    // Into so many of the lent bytes, from the first on.
+    Tabulate { rule: Node, length: u16 },
+    Walk { rule: Node, row: u16 },
+}
+
+// One of the eight calls with its arguments. (The state that open is given stands beside it: an enum holds no array.)
+pub enum Request {
+    Open,
+    Constant(u16),
+    Make(Making),
     Ask(Query),
 }

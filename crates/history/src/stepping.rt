@@ -1,3 +1,4 @@
+use crate::requests::Making;
 use crate::requests::Query;
 use crate::requests::Request;
 use rule::Done;
@@ -10,10 +11,10 @@ use store::Stored;
 use store::Walked;
 ghost use mathlib.Core.Path.{_≡_};
 ghost use lib.ListN.{take, drop};
-ghost use Rattle.rule.specs.Answers.{doneReply};
-ghost use Rattle.rule.specs.Calls.{Tabulate};
+ghost use Rattle.rule.specs.Answers.{doneReply, madeReply};
+ghost use Rattle.rule.specs.Calls.{Make, Tabulate};
 ghost use Rattle.store.specs.State.{stateOf};
-ghost use Rattle.history.specs.Request.{Answers, Steps};
+ghost use Rattle.history.specs.Request.{makingOf, Answers, Steps};
 
 // What a call answers, whichever it is.
 pub enum Answer {
@@ -64,6 +65,26 @@ fn said(walked: Walked) -> Reached
     }
 }
 
+// Make one call that makes a rule with records.
+fn make(store: Store, cells: &mut [u16], making: Making) -> Stored
+    ensures { λ r. ⌜ Make (stateOf store) (now (cells .entry)) (makingOf making) (madeReply (r .answer)) (stateOf (r .store)) (now (cells .exit)) ⌝ }
+{
+    match making {
+        Making::Flag(i) => store.flag(cells, i),
+        Making::Join {
+            code,
+            first,
+            second,
+        } => store.join(cells, code, first, second),
+        Making::Choose {
+            first,
+            second,
+            third,
+        } => store.choose(cells, first, second, third),
+        Making::Fix { rule, flag, value } => store.fix(cells, rule, flag, value),
+    }
+}
+
 // Tabulate into so many of the lent bytes, from the first on: into all, where there are fewer.
 fn tabulated(store: Store, cells: &[u16], rule: Node, length: u16, bytes: &mut [u8]) -> Passed
     ensures { λ r. ⌜ Tabulate (stateOf store) (now (cells .entry)) (rule .number) (take length (now (bytes .entry))) (doneReply (r .answer)) (stateOf (r .store)) (take length (now (bytes .exit))) ⌝ }
@@ -99,18 +120,7 @@ pub fn step(
     match request {
         Request::Open => done(given.open(cells)),
         Request::Constant(value) => made(store.constant(cells, value)),
-        Request::Flag(i) => made(store.flag(cells, i)),
-        Request::Join {
-            code,
-            first,
-            second,
-        } => made(store.join(cells, code, first, second)),
-        Request::Choose {
-            first,
-            second,
-            third,
-        } => made(store.choose(cells, first, second, third)),
-        Request::Fix { rule, flag, value } => made(store.fix(cells, rule, flag, value)),
+        Request::Make(making) => made(make(store, cells, making)),
         Request::Ask(query) => ask(store, cells, query, bytes),
     }
 }

@@ -9,6 +9,7 @@ use Rattle.rule.specs.Calls.{State}
 use Rattle.rule.specs.History.{Asked}
 use Rattle.rule.specs.declared.node.Node.{Node}
 use Rattle.history.specs.Request.{askedBy, part}
+use Rattle.history.specs.declared.requests.Making.the-variants as the-making
 use Rattle.history.specs.declared.requests.Query.the-variants as the-query
 use Rattle.history.specs.declared.requests.Request.{Request}
 use Rattle.history.specs.declared.requests.Request.the-variants as the-request
@@ -26,10 +27,10 @@ abbrev pub requestBy : ℕ → ℕ → ℕ → ℕ → Request
 requestBy kind x y z =
     cond (eqb kind 0) the-request.Open
     (cond (eqb kind 1) (the-request.Constant x)
-    (cond (eqb kind 2) (the-request.Flag x)
-    (cond (eqb kind 3) (the-request.Join (x % 256) (node y) (node z))
-    (cond (eqb kind 4) (the-request.Choose (node x) (node y) (node z))
-    (cond (eqb kind 5) (the-request.Fix (node x) y z)
+    (cond (eqb kind 2) (the-request.Make (the-making.Flag x))
+    (cond (eqb kind 3) (the-request.Make (the-making.Join (x % 256) (node y) (node z)))
+    (cond (eqb kind 4) (the-request.Make (the-making.Choose (node x) (node y) (node z)))
+    (cond (eqb kind 5) (the-request.Make (the-making.Fix (node x) y z))
     (cond (eqb kind 6) (the-request.Ask (the-query.Tabulate (node x) y))
     (the-request.Ask (the-query.Walk (node x) y))))))))
 

@@ -1,4 +1,5 @@
 // The words of a call: what is asked, or for open the state that it is given.
+use history::Making;
 use history::Query;
 use history::Request;
 use rule::Node;
@@ -28,22 +29,22 @@ fn request_by(kind: u16, x: u16, y: u16, z: u16) -> Request
     match kind {
         0 => Request::Open,
         1 => Request::Constant(x),
-        2 => Request::Flag(x),
-        3 => Request::Join {
+        2 => Request::Make(Making::Flag(x)),
+        3 => Request::Make(Making::Join {
             code,
             first: Node { number: y },
             second: Node { number: z },
-        },
-        4 => Request::Choose {
+        }),
+        4 => Request::Make(Making::Choose {
             first: Node { number: x },
             second: Node { number: y },
             third: Node { number: z },
-        },
-        5 => Request::Fix {
+        }),
+        5 => Request::Make(Making::Fix {
             rule: Node { number: x },
             flag: y,
             value: z,
-        },
+        }),
         6 => Request::Ask(Query::Tabulate {
             rule: Node { number: x },
             length: y,

@@ -12,35 +12,17 @@ returns-2 : tie.Need-returns-2
 returns-2 c = rw (c .before .before .before .before .before .before .request .given .1, c .made .ensures .1, c .made .ensures .0) (record { met = c .before .before .before .constant .ensures; kind = refl; behind = refl })
 
 returns-3 : tie.Need-returns-3
-returns-3 c = rw (c .before .before .before .before .before .before .request2 .given .1, c .made2 .ensures .1, c .made2 .ensures .0) (record { met = c .before .before .before .flag .ensures; kind = refl; behind = refl })
+returns-3 c = rw (c .before .before .before .before .before .before .request2 .given .1, c .made2 .ensures .1, c .made2 .ensures .0) (record { met = c .before .before .before .make .ensures; kind = refl; behind = refl })
 
 returns-4 : tie.Need-returns-4
-returns-4 c = rw (c .before .before .before .before .before .before .request3 .given .1, c .made3 .ensures .1, c .made3 .ensures .0) (record { met = c .before .before .before .join .ensures; kind = refl; behind = refl })
-
-returns-5 : tie.Need-returns-5
-returns-5 c = rw (c .before .before .before .before .before .before .request4 .given .1, c .made4 .ensures .1, c .made4 .ensures .0) (record { met = c .before .before .before .choose .ensures; kind = refl; behind = refl })
-
-returns-6 : tie.Need-returns-6
-returns-6 c = rw (c .before .before .before .before .before .before .request5 .given .1, c .made5 .ensures .1, c .made5 .ensures .0) (record { met = c .before .before .before .fix .ensures; kind = refl; behind = refl })
-
-returns-7 : tie.Need-returns-7
-returns-7 c =
+returns-4 c =
     let e = c .before .before .ask .ensures in
-    rw (c .before .before .before .before .before .before .request6 .given .1) (record { met = (e .met, refl); kind = e .kind; behind = e .behind })
+    rw (c .before .before .before .before .before .before .request3 .given .1) (record { met = (e .met, refl); kind = e .kind; behind = e .behind })
 
 pub step-spec : {M : Type 1} → statement M
 step-spec =
     tie.close
     (tie.spec
-    (λ c. search needs)
-    (λ c κs. search needs)
-    (λ c κs. search needs)
-    (λ c. search needs)
-    (λ c κs. search needs)
-    (λ c κs. search needs)
-    (λ c. search needs)
-    (λ c κs. search needs)
-    (λ c κs. search needs)
     (λ c. search needs)
     (λ c κs. search needs)
     (λ c κs. search needs)
@@ -59,11 +41,5 @@ step-spec =
     (λ c. search needs)
     returns-3
     (λ c. search needs)
-    returns-4
     (λ c. search needs)
-    returns-5
-    (λ c. search needs)
-    returns-6
-    (λ c. search needs)
-    (λ c. search needs)
-    returns-7)
+    returns-4)
