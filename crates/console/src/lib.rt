@@ -5,7 +5,8 @@ ghost use mathlib.Core.Path.{_≡_};
 ghost use mathlib.Core.Bool.{false};
 ghost use Prim.Native.Nat.{_≤_, _<_};
 ghost use lib.ListN.{length, take};
-ghost use Rattle.parsing.specs.Final.{mostRows, Final};
+ghost use Rattle.rule.specs.Listing.{mostRows};
+ghost use Rattle.parsing.specs.Final.{Final};
 
 // As many bytes as a listing needs at most: one more than a table's rows.
 const ENOUGH: usize = parsing::MOST_ROWS + 1;

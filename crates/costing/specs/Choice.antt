@@ -12,7 +12,7 @@ use Rattle.stretches.specs.Stretch.{stretchOf}
 unfoldable pub via : ℕ → List ℕ → List ℕ → ℕ → ℕ → ℕ
 via n w least S v = getD least (setBit S v 0) 0 + foldCount (stretchOf n w (setBit S v 0)) (placeOf S v) (stretchOf n w S)
 
--- the least costs are small: no level has more than 1024 nodes
+-- the least costs are small: no level has more than 1024 nodes, and a set has no more flags than its number
 pub record Bounded (n : ℕ) (least : List ℕ) : Type 0 where
   pub most : (S : ℕ) → S < 2 ^ n → getD least S 0 ≤ S * 1024
 

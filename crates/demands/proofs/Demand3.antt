@@ -11,20 +11,19 @@ use borrow.Author.Tests.{ltb-false, le-ltb, leb-true, leb-false, not-false}
 use lib.Dec.{leb, ltb}
 use lib.ListN.{getD, drop}
 use Rattle.rule.specs.Table.{fitLength}
-use Rattle.rule.specs.Level.{size}
-use Rattle.rule.specs.Order.{flags, fitOrder, packed}
+use Rattle.rule.specs.Order.{fitOrder}
 use Rattle.rule.specs.Cells.{fitCells}
 use Rattle.rule.specs.Walk.{walk, tableOf}
-use Rattle.rule.specs.Refusals.{Row, refusal, tabulateRows, walkRows, packRows}
+use Rattle.rule.specs.Refusals.{Row, refusal, tabulateRows, walkRows}
 use Rattle.rule.specs.Reply.{Reply, reply, numberOf, Accepted, leaves}
-use Rattle.rule.specs.Calls.{State, Tabulate, Walk, Pack}
+use Rattle.rule.specs.Calls.{State, Tabulate, Walk}
 use Rattle.rule.specs.History.{Book, inBook}
-use Rattle.rule.specs.Demands.{Fit, Gives, PackedWell, RuleKept, Demand3}
+use Rattle.rule.specs.Demands.{Gives, RuleKept, Demand3}
 use Rattle.theory.proofs.Tests.{and-split}
 use Rattle.theory.proofs.Walks.{table-row}
-use Rattle.theory.proofs.Orders.{fit-order-is, packed-fewest}
-use Rattle.demands.proofs.Stands.{accepted-reply, passed, packs}
-use Rattle.demands.proofs.Counts.{counts, equally}
+use Rattle.demands.proofs.Stands.{accepted-reply, passed}
+use Rattle.demands.proofs.Counts.{equally}
+use Rattle.demands.proofs.Packed.{packed-well}
 use Rattle.demands.proofs.Beside.{After, live, shut, steps-from-open}
 
 -- ---- the number that tabulate gives
@@ -92,25 +91,12 @@ module _ {s : State} {c : List ℕ} {b : Book} (a : After s c b) (m : ℕ) (t : 
       let h = tabulate-le m t bytes a p in
       (λ q. omega arith, λ q. omega arith)
 
-packed-well : (n nodes root : ℕ) (t order c w d x : List ℕ) (r : Reply) → Pack n t c w r d x → Gives r (nodes ∷ root ∷ order) → PackedWell n t order nodes root d
-packed-well n nodes root t order c w d x r b g =
-    let (z, v) = accepted-reply (refusal (packRows n t c w)) (b .answer) g in
-    let (few, (rows, (bits, _))) = passed (packRows n t c w) refl z in
-    let nodes-is : nodes ≡ size (packed n t) t = cc in
-    record {
-      stands = packs n nodes root t order c w d x r b g;
-      fewest = λ other cells used top l o y.
-          let f : Fit n other t =
-          record { few = ltb-false 10 n few; kept-in = l; order-fits = o; rows = not-false _ rows; bits = not-false _ bits } in
-          omega (arith, counts n other t f cells used top y, packed-fewest n t (flags n other) (fit-order-is n other o));
-    }
-
 rule-kept : {s : State} {c : List ℕ} {b : Book} → After s c b → (m : ℕ) (t : List ℕ) → inBook b m ≡ some t → RuleKept s c m t
 rule-kept a m t p =
     record {
       answers = record { tabulated = tabulated a m t p; walked = walked a m t p; there = there a m t p };
       brought-out = λ bytes after r s′ x h n nodes root order cells w d y q z g.
-          packed-well n nodes root t order cells w d y q (rw (tabulated a m t p bytes after r s′ x h) at z) g;
+          packed-well (rw (tabulated a m t p bytes after r s′ x h) at z) g;
     }
 
 -- ---- the list

@@ -12,5 +12,6 @@ pub mod ReadBack
 pub mod RuleFiles
 pub mod NoRoom
 pub mod Demand2
+pub mod Packed
 pub mod Beside
 pub mod Demand3

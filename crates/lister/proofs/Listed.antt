@@ -21,10 +21,9 @@ use Rattle.rule.specs.Reply.{accepted, refused}
 use Rattle.rule.specs.Results.{rootBy}
 use Rattle.rule.specs.Calls.{Draws, Pack}
 use Rattle.rule.specs.Demands.{Fit}
-use Rattle.rule.specs.Listing.{isDigit, flagsOf, rowsOf, lineRows, workspaceCells, shortWorkspace, listingRows, wordLine, askingPacked, listed, listedOr}
+use Rattle.rule.specs.Listing.{mostRows, isDigit, flagsOf, rowsOf, lineRows, workspaceCells, shortWorkspace, listingRows, wordLine, askingPacked, listed, listedOr}
 use Rattle.theory.proofs.Refused.{row-passed, refused-more, passed-more, refused-is, accepted-is}
 use Rattle.theory.proofs.Orders.{packed-fit, packed-flags}
-use Rattle.parsing.specs.Final.{mostRows}
 use Rattle.demands.proofs.Exists.{size-few}
 use Rattle.demands.proofs.Counts.{asks}
 use Rattle.demands.proofs.Stands.{packs}

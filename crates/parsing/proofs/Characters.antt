@@ -13,10 +13,9 @@ use lib.ListN.{length, getD, set, take, drop, replicate, length-append, length-d
 use lib.Seq.{length-take-le, take-at, ext-getD, getD-set-same, getD-set-other}
 use Rattle.rule.specs.Tests.{each}
 use Rattle.rule.specs.Table.{fitRows}
-use Rattle.rule.specs.Listing.{isDigit, rowsOf}
+use Rattle.rule.specs.Listing.{mostRows, isDigit, rowsOf}
 use Rattle.theory.proofs.Tests.{and-split, and-join, each-in}
 use Rattle.theory.proofs.Scan.{at-in}
-use Rattle.parsing.specs.Final.{mostRows}
 
 -- a digit is the byte 30 or 31, hexadecimal
 digit-range : (b : ℕ) → isDigit b ≡ true → (48 ≤ b) × (b ≤ 49)

@@ -14,8 +14,8 @@ use lib.ListN.{length, getD, take, length-append}
 use lib.Seq.{length-take-le, take-all, take-take, take-append-seam, getD-take}
 use Rattle.rule.specs.Refusals.{refusal}
 use Rattle.rule.specs.Text.{readLine}
-use Rattle.rule.specs.Listing.{flagsOf, rowsOf, listingRows, wordLine, listedOr, listing}
-use Rattle.parsing.specs.Final.{mostRows, enough, Final}
+use Rattle.rule.specs.Listing.{mostRows, flagsOf, rowsOf, listingRows, wordLine, listedOr, listing}
+use Rattle.parsing.specs.Final.{enough, Final}
 use Rattle.parsing.proofs.FirstLine.{Open, open-more, line-to, line-goes-on}
 
 -- k bytes are all of the input, or more than a table's rows, or have a line end among them

@@ -6,11 +6,7 @@ use mathlib.Core.List.{List, _++_}
 use Prim.Native.Nat.{ℕ, _-_}
 use lib.Dec.{eqb, ltb}
 use lib.ListN.{length, getD}
-use Rattle.rule.specs.Listing.{listing}
-
--- the rows of a table of ten flags
-abbrev pub mostRows : ℕ
-mostRows = 1024
+use Rattle.rule.specs.Listing.{mostRows, listing}
 
 -- these bytes are more than a table's rows, or the last of them ends the line (of no bytes there is none: a byte that is not there counts as 0)
 unfoldable pub enough : List ℕ → Bool

@@ -1,4 +1,4 @@
--- Rows and their bits (document 01, "Tables, orders, nodes").
+-- Rows and their bits (document 01, "Tables, orders, nodes" and "The book beside the store").
 -- Assumes nothing.
 use mathlib.Core.List.{List, [], _∷_}
 use Prim.Native.Nat.{ℕ, zero, suc, _+_, _*_, _/_, _%_}

@@ -1,4 +1,5 @@
--- Records in lent cells: the one place that says how wide a record is and where its values stand (document 01, "Tables, orders, nodes").
+-- Records in lent cells: the one place that says how wide a record is and where its values stand (document 01, "Tables, orders, nodes" and
+-- "Refused, by where it is found").
 -- Assumes nothing.
 use mathlib.Core.Bool.{Bool, _&&_}
 use mathlib.Core.List.{List, [], _∷_, _++_, map}

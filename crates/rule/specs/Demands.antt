@@ -1,4 +1,5 @@
--- Demands 2 and 3, each as one statement over the outcomes of Calls.antt and Files.antt, and a third: what the writer writes the reader reads. (Demand 1 is
+-- Demands 2 and 3, each as one statement over the outcomes of Calls.antt and Files.antt, and two more: which order pack takes of several, and what the writer
+-- writes the reader reads. (Demand 1 is
 -- the contracts themselves: no call has a condition, each gives its number and every lent buffer, and the check proves that it reads, writes and ends within
 -- what it was given.)
 -- Assumes nothing.
@@ -11,7 +12,7 @@ use Prim.Native.Nat.{ℕ, _+_, _^_, _≤_, _<_}
 use lib.ListN.{length, getD, take}
 use Rattle.rule.specs.Table.{fitLength, fitRows}
 use Rattle.rule.specs.Level.{levelCount, size}
-use Rattle.rule.specs.Order.{places, flags, fitOrder, askedBefore}
+use Rattle.rule.specs.Order.{places, flags, fitOrder, askedBefore, Lex}
 use Rattle.rule.specs.Cells.{fitCells, room, flagAt, lowAt, highAt, laidIn, recordsIn}
 use Rattle.rule.specs.Walk.{tableOf}
 use Rattle.rule.specs.Sound.{sound}
@@ -160,6 +161,16 @@ pub record AfterList (s : State) (c : List ℕ) (b : Book) (es : List Fed) : Typ
 abbrev pub Demand3 : Type 0
 Demand3 =
     (first s : State) (cells c : List ℕ) (b : Book) (xs : List Call) → Calls first cells xs s c → BeginsOpen (feed xs) → AfterList s c b (feed xs)
+
+-- ---- the packed order
+
+-- "The order has the fewest nodes of all n! orders; of several, the one first by dictionary comparison.": no other order that draws the table with as many nodes
+-- stands before the one that an accepted pack hands back. (That none has fewer is `PackedWell.fewest`.)
+abbrev pub PackedFirst : Type 0
+PackedFirst =
+    (n nodes root : ℕ) (t order c w d x : List ℕ) (r : Reply) → Pack n t c w r d x → Gives r (nodes ∷ root ∷ order)
+    → (other cells : List ℕ) (top : ℕ) → length other ≡ places → fitOrder n other ≡ true → DrawnAs n other t cells nodes top
+    → Lex (flags n order) (flags n other)
 
 -- ---- rule files
 

@@ -1,4 +1,4 @@
--- Lists of store calls and the plain book beside them (document 01, "The book beside the store"). "Store calls that are added later join the list": one that
+-- Lists of store calls (demand 3) and the plain book beside them (document 01, "The book beside the store"). "Store calls that are added later join the list": one that
 -- makes a rule is one more case of `Making`, "those that make no rule" of `Query` (both in Results.antt).
 -- Assumes nothing.
 use mathlib.Core.Path.{_≡_}

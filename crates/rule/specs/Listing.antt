@@ -30,9 +30,13 @@ flagsFrom (suc more) n rows = elim (eqb rows (2 ^ n)) [ true ↦ n | false ↦ f
 abbrev pub flagsOf : List ℕ → ℕ
 flagsOf line = flagsFrom 11 0 (length line)
 
+-- "1,024 rows": those of a table of ten flags
+abbrev pub mostRows : ℕ
+mostRows = 1024
+
 -- "More than 1,024 rows print `refused 1`; a row count that is no power of two `refused 2`, the empty line too; another character `refused 3`"
 abbrev pub lineRows : List ℕ → List Row
-lineRows line = (ltb 1024 (length line), 1) ∷ (ltb 10 (flagsOf line), 2) ∷ (not (each isDigit line), 3) ∷ []
+lineRows line = (ltb mostRows (length line), 1) ∷ (ltb 10 (flagsOf line), 2) ∷ (not (each isDigit line), 3) ∷ []
 
 -- "The workspace is 6,561 cells."
 abbrev pub workspaceCells : ℕ

@@ -1,8 +1,11 @@
--- Orders of the flags (document 01, "Tables, orders, nodes" and "Packing"). The one asked first stands first.
+-- Orders of the flags (document 01, "Tables, orders, nodes", "Packing", refusal 4 and what "The book beside the store" calls asked before). The one asked first
+-- stands first.
 -- Assumes nothing.
+use mathlib.Core.Path.{_≡_}
+use mathlib.Core.Logic.{_⊎_}
 use mathlib.Core.Bool.{Bool, cond, _&&_}
 use mathlib.Core.List.{List, [], _∷_, _++_, map}
-use Prim.Native.Nat.{ℕ, zero, suc}
+use Prim.Native.Nat.{ℕ, zero, suc, _<_}
 use lib.Dec.{eqb, ltb}
 use lib.ListN.{length, take, drop, replicate}
 use Rattle.rule.specs.Bits.{below}
@@ -51,6 +54,12 @@ abbrev pub level : List ℕ → ℕ → ℕ
 level order v = length (askedBefore v order)
 
 -- ---- all orders, in dictionary order
+
+-- "dictionary comparison": order o stands before p, or is p
+abbrev pub Lex : List ℕ → List ℕ → Type 0
+Lex [] p = Unit {0}
+Lex (v ∷ o) [] = ⊥
+Lex (v ∷ o) (u ∷ p) = (v < u) ⊎ ((v ≡ u) × Lex o p)
 
 -- every way to take one flag of a list, with those that are left, in the list's sequence
 unfoldable pub picks : List ℕ → List (ℕ × List ℕ)

@@ -1,4 +1,5 @@
--- The reduced ordered diagram (document 001, section 2.1, as document 01 cites it: "neither collapsing step applies").
+-- The reduced ordered diagram (document 001, section 2.1, as document 01 cites it: "neither collapsing step applies"), and to draw a table (document 01, "The book
+-- beside the store").
 -- Assumes nothing.
 use mathlib.Core.Path.{_≡_}
 use mathlib.Core.Bool.{true}
@@ -10,7 +11,7 @@ use Rattle.rule.specs.Walk.{tableOf}
 use Rattle.rule.specs.Sound.{flagsBelow, childrenSmaller, childrenLater, laid}
 use Rattle.rule.specs.Diagram.{allReached}
 
--- "Two nodes of a decision diagram are equivalent if they are either (1) both terminals with the same value, or (2) both internal nodes having the same
+-- "Two nodes of a decision diagram are equivalent if they are either (1) both terminals with the same value .., or (2) both internal nodes having the same
 -- label and their left sons are equivalent and their right sons are equivalent."
 pub data Equivalent (c : List ℕ) : ℕ → ℕ → Type 0 where
   terminals : {m p : ℕ} → m < 2 → m ≡ p → Equivalent c m p

@@ -1,5 +1,5 @@
 -- The calls that make a rule, the tables that they make, and the records that a result needs; the calls that make none, and what they hand back (document 01,
--- "The store" and "The book beside the store").
+-- "The store", "The book beside the store" and, of a root, "Tables, orders, nodes").
 -- Assumes nothing.
 use mathlib.Core.Bool.{true, false, not, cond}
 use mathlib.Core.List.{List, [], _∷_, map}

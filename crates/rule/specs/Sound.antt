@@ -45,7 +45,7 @@ noneEqual c used = each (λ k. each (λ j. not (sameRecord c j k)) (below k)) (b
 unfoldable pub restClear : List ℕ → ℕ → Bool
 restClear c used = each (eqb 0) (drop (used * width) c)
 
--- the cells hold the used records and nothing else: no more than there is room for, and 0 past them
+-- the cells hold the used records and nothing else: no more than there is room for (refusal 6: "not sound, or more used than the cells hold"), and 0 past them
 unfoldable pub laid : List ℕ → ℕ → Bool
 laid c used = leb used (room c) && restClear c used
 

@@ -1,4 +1,4 @@
--- Truth tables, cofactors and support (document 01, "Tables, orders, nodes" and "Packing"). A rule's table is the list of its rows.
+-- Truth tables, cofactors and support (document 01, "Tables, orders, nodes", "The store" and "Packing"). A rule's table is the list of its rows.
 -- Assumes nothing.
 use mathlib.Core.Bool.{Bool, not}
 use mathlib.Core.List.{List, [], _∷_, _++_, map}

@@ -1,4 +1,4 @@
-// The calls that make no rule: open, tabulate and walk.
+// Open, and the calls that make no rule: tabulate and walk.
 use crate::state::Passed;
 use crate::state::Store;
 use crate::state::Walked;

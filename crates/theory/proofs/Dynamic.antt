@@ -8,16 +8,11 @@ use Prim.Native.Nat.{ℕ, _+_, _≤_, _<_}
 use native.Mathlib.Nat.{eq-or-lt-of-le, le-trans}
 use native.Mathlib.Omega.{arith}
 use Rattle.rule.specs.Bits.{bit, setBit}
+use Rattle.rule.specs.Order.{Lex}
 use Rattle.theory.specs.Sets.{Follows}
 use Rattle.theory.proofs.Bits.{clear-le}
 
 -- ---- the dictionary
-
--- o stands before p in the dictionary, or is p
-abbrev pub Lex : List ℕ → List ℕ → Type 0
-Lex [] p = Unit {0}
-Lex (v ∷ o) [] = ⊥
-Lex (v ∷ o) (u ∷ p) = (v < u) ⊎ ((v ≡ u) × Lex o p)
 
 pub lex-refl : (o : List ℕ) → Lex o o
 lex-refl [] = tt

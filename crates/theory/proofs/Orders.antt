@@ -14,15 +14,15 @@ use borrow.Author.Tests.{eqb-true, eq-eqb}
 use Rattle.rule.specs.Bits.{below}
 use Rattle.rule.specs.Level.{size}
 use Rattle.rule.specs.Tests.{keep}
-use Rattle.rule.specs.Order.{flags, times, eachOnce, restZero, fitOrder, inPlaces, rising, picks, gather, ordersOf, orders, leastOf, rank, packed}
+use Rattle.rule.specs.Order.{flags, times, eachOnce, restZero, fitOrder, Lex, inPlaces, rising, picks, gather, ordersOf, orders, leastOf, rank, packed}
 use Rattle.theory.proofs.Member.{In, head, tail, not-nil, cases-cons, append-cases, eq-of-singleton, cast, append-left, append-right, in-map, map-in, Perm, cons, swap, trans, perm-refl}
 use Rattle.theory.proofs.Bits.{length-from, below-in, in-below}
 use Rattle.theory.proofs.Tests.{and-split, and-join, each-in, each-at, at-each, below-each, keep-in, in-keep}
 use Rattle.theory.proofs.Perm.{Once, Within, Exactly, exactly-iff, later, perm-in, perm-back, perm-length, perm-once, perm-of-length, once-set, once-keep, once-from}
 use Rattle.theory.proofs.Least.{Pairwise, pairwise-map, pairwise-append, Rising, rising-from, first-of, first-least}
-use Rattle.theory.proofs.Dynamic.{Lex, lex-refl, lex-trans}
+use Rattle.theory.proofs.Dynamic.{lex-refl, lex-trans}
 use Rattle.theory.proofs.Sets.{Order}
-use Rattle.theory.proofs.Packed.{IsPacked, fewest}
+use Rattle.theory.proofs.Packed.{IsPacked, fewest, first-of-fewest}
 
 -- ---- one flag taken out of a list
 
@@ -199,6 +199,10 @@ packed-is n t = go (orders n) refl
 -- no order draws a table with fewer nodes than the packed one
 pub packed-fewest : (n : ℕ) (t o : List ℕ) → Order n o → size (packed n t) t ≤ size o t
 packed-fewest n t o p = fewest n t (packed n t) (packed-is n t) o p
+
+-- and of those that draw it with as many it stands first in the dictionary
+pub packed-first : (n : ℕ) (t o : List ℕ) → Order n o → size o t ≡ size (packed n t) t → Lex (packed n t) o
+packed-first n t o p e = first-of-fewest n t (packed n t) (packed-is n t) o p e
 
 -- ---- orders in their ten places
 

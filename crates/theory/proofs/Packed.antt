@@ -9,11 +9,11 @@ use native.Mathlib.Omega.{arith}
 use lib.ListN.{length, length-append}
 use Rattle.rule.specs.Bits.{setBit}
 use Rattle.rule.specs.Level.{levelNodes, levelCount, nodesFrom, size}
-use Rattle.rule.specs.Order.{rank}
+use Rattle.rule.specs.Order.{Lex, rank}
 use Rattle.theory.proofs.Bits.{clear-le}
 use Rattle.theory.proofs.Friedman.{friedman-set}
 use Rattle.theory.specs.Sets.{Follows, having}
-use Rattle.theory.proofs.Dynamic.{Lists, Lex, lex-antisym, total, Solved, follows-least}
+use Rattle.theory.proofs.Dynamic.{Lists, lex-antisym, total, Solved, follows-least}
 use Rattle.theory.proofs.Sets.{having-exactly, Before, before-full, before-next, member-lt, full-lt, Order, lists-order, order-lists}
 
 -- o is, of all orders of n flags, the dictionary-first of the lowest rank
@@ -30,6 +30,11 @@ rank-size n t o p a b h = h
 -- so a packed order has the fewest nodes of all
 pub fewest : (n : ℕ) (t o : List ℕ) → IsPacked n t o → (p : List ℕ) → Order n p → size o t ≤ size p t
 fewest n t o x p b = rank-size n t o p (x .order) b (x .lowest p b)
+
+-- and of those with as many it is the first in the dictionary
+pub first-of-fewest : (n : ℕ) (t o : List ℕ) → IsPacked n t o → (p : List ℕ) → Order n p → size p t ≡ size o t → Lex o p
+unfolding rank
+first-of-fewest n t o x p b e = x .first p b e
 
 -- ---- the rank, flag by flag
 

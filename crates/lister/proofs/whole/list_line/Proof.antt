@@ -8,7 +8,7 @@ use denote.Ref.{now}
 use lib.ListN.{length, length-replicate}
 use Rattle.rule.specs.Table.{fitRows}
 use Rattle.rule.specs.Text.{text}
-use Rattle.parsing.specs.Final.{mostRows}
+use Rattle.rule.specs.Listing.{mostRows}
 use Rattle.parsing.proofs.FirstLine.{rows-power}
 use Rattle.parsing.proofs.Characters.{rows-fit, rows-length, held-front, read-front, read-room}
 use Rattle.lister.proofs.Listed.{line-refused, line-fits, line-listed}
