@@ -30,7 +30,7 @@ fn lent_refusal(n: u8, table: &[u8], cells: &[u16], workspace: &[u16]) -> u8
 pub fn pack(n: u8, table: &[u8], cells: &mut [u16], workspace: &mut [u16]) -> Packed
     ensures { λ r. ⌜ Pack n (now (table .entry)) (now (cells .entry)) (now (workspace .entry)) (packedReply (r .order) (r .answer)) (now (cells .exit)) (now (workspace .exit)) ⌝ }
 {
-    let none = Order { places: [0u8; 10] };
+    let none = Order::ZEROS;
     let refused = lent_refusal(n, table, cells, workspace);
     if refused != 0 {
         return Packed {
