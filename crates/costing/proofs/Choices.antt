@@ -11,7 +11,8 @@ use lib.ListN.{length, getD, take, drop}
 use Rattle.rule.specs.Bits.{bit, setBit, below}
 use Rattle.theory.proofs.Bits.{clear-lt, length-from}
 use Rattle.theory.proofs.Tests.{length-keep}
-use Rattle.folding.specs.Fold.{foldCount, placeOf}
+use Rattle.ways.specs.Ways.{placeOf}
+use Rattle.folding.specs.Fold.{foldCount}
 use Rattle.stretches.specs.Stretch.{stretchOf, PartOf}
 use Rattle.costing.specs.Ready.{Ready, Lowest}
 use Rattle.costing.specs.Choice.{via, Bounded, CheapestBelow, Cheapest}

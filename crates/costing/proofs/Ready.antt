@@ -10,7 +10,7 @@ use Rattle.rule.specs.Bits.{bit, setBit}
 use Rattle.rule.specs.Sets.{setSize, stretch}
 use Rattle.theory.proofs.Bits.{clear-le}
 use Rattle.theory.proofs.Sets.{member-lt}
-use Rattle.folding.specs.Fold.{placeOf, Foldable}
+use Rattle.ways.specs.Ways.{placeOf, Foldable}
 use Rattle.folding.proofs.Outside.{place-le, rest-size, stretch-half}
 use Rattle.stretches.specs.Stretch.{stretchOf, PartOf}
 use Rattle.stretches.proofs.Stretches.{part-is, stretch-length}

@@ -5,7 +5,8 @@ use mathlib.Core.List.{List}
 use Prim.Native.Nat.{ℕ, _+_, _*_, _^_, _≤_, _<_}
 use lib.ListN.{getD}
 use Rattle.rule.specs.Bits.{bit, setBit}
-use Rattle.folding.specs.Fold.{foldCount, placeOf}
+use Rattle.ways.specs.Ways.{placeOf}
+use Rattle.folding.specs.Fold.{foldCount}
 use Rattle.stretches.specs.Stretch.{stretchOf}
 
 -- what it costs to ask the flags of S with v first: the nodes that ask v, and the least cost of the rest

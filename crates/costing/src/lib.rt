@@ -32,7 +32,7 @@ fn via(
     let end = own.end;
     let nodes = folding::count(
         &workspace[from..to],
-        folding::place_of(set, v),
+        ways::place_of(set, v),
         &workspace[start..end],
     );
     least[rest as usize] + nodes as u32

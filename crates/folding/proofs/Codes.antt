@@ -28,9 +28,10 @@ use Rattle.theory.proofs.Sets.{having-exactly}
 use Rattle.theory.proofs.Packed.{cost}
 use Rattle.theory.proofs.Restrict.{restrict-all}
 use Rattle.theory.proofs.Canonical.{mix, mix-cofactors}
-use Rattle.folding.specs.Fold.{insertBit, placeOf, Foldable, Folds, foldCount}
+use Rattle.ways.specs.Ways.{insertBit, placeOf, Foldable}
+use Rattle.ways.proofs.Insert.{insert-lt}
+use Rattle.folding.specs.Fold.{Folds, foldCount}
 use Rattle.folding.specs.Codes.{fixedBy, wayRule, Codes, Firsts}
-use Rattle.folding.proofs.Insert.{insert-lt}
 use Rattle.folding.proofs.Fixed.{length-fixed, fixed-insert, fixed-in, in-fixed, fixed-row}
 use Rattle.folding.proofs.Outside.{above, outside-none, outside-size, outside-with, outside-without, outside-place, rest-size, place-le}
 

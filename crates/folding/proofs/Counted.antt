@@ -14,8 +14,8 @@ use Rattle.rule.specs.Tests.{keep}
 use Rattle.theory.proofs.Bits.{length-from}
 use Rattle.theory.proofs.Tests.{length-keep}
 use Rattle.theory.proofs.Scan.{more, counted}
+use Rattle.ways.specs.Ways.{codeAt}
 use Rattle.folding.specs.Fold.{foldCount}
-use Rattle.folding.specs.Index.{codeAt}
 
 -- way i is the first with its code, and its halves differ
 abbrev node : List ℕ → ℕ → List ℕ → ℕ → Bool

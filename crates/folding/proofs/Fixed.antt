@@ -10,7 +10,7 @@ use Rattle.rule.specs.Table.{cofactor, fixings, restrict}
 use Rattle.theory.proofs.Member.{In, head, tail, eq-of-singleton}
 use Rattle.theory.proofs.Cofactor.{length-cofactor, cofactor-comm}
 use Rattle.theory.proofs.Friedman.{Flags, branch, unbranch}
-use Rattle.folding.specs.Fold.{insertBit}
+use Rattle.ways.specs.Ways.{insertBit}
 use Rattle.folding.specs.Codes.{fixedBy}
 
 pub length-fixed : (vs : List ℕ) (i : ℕ) (t : List ℕ) → length (fixedBy vs i t) ≡ length t

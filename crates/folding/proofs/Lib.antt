@@ -1,5 +1,4 @@
-pub mod Insert
-pub mod Chain
+pub mod Folding
 pub mod Counted
 pub mod Fixed
 pub mod Outside

@@ -15,7 +15,7 @@ use Rattle.rule.specs.Sets.{setSize, stretch}
 use Rattle.theory.proofs.Member.{In, head, tail}
 use Rattle.theory.proofs.Bits.{from-in, bit-zero, bit-same, bit-other, clear-le}
 use Rattle.theory.specs.Sets.{having}
-use Rattle.folding.specs.Fold.{placeOf}
+use Rattle.ways.specs.Ways.{placeOf}
 
 -- ---- what is kept
 

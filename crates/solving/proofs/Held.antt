@@ -9,7 +9,8 @@ use lib.ListN.{length, take, drop, length-append}
 use lib.Seq.{take-at}
 use Rattle.rule.specs.Bits.{bit, setBit}
 use Rattle.rule.specs.Sets.{stretch}
-use Rattle.folding.specs.Fold.{placeOf, Foldable, Folds}
+use Rattle.ways.specs.Ways.{placeOf, Foldable}
+use Rattle.folding.specs.Fold.{Folds}
 use Rattle.stretches.specs.Stretch.{stretchOf, PartOf}
 use Rattle.stretches.proofs.Parts.{part, part-length}
 use Rattle.stretches.proofs.Stretches.{stretch-length, written-length, written-own, written-other}

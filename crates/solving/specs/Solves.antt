@@ -6,7 +6,8 @@ use mathlib.Core.List.{List}
 use Prim.Native.Nat.{ℕ, _^_, _<_}
 use lib.ListN.{length, set}
 use Rattle.rule.specs.Bits.{bit, setBit}
-use Rattle.folding.specs.Fold.{Folds, placeOf}
+use Rattle.ways.specs.Ways.{placeOf}
+use Rattle.folding.specs.Fold.{Folds}
 use Rattle.stretches.specs.Stretch.{stretchOf}
 use Rattle.costing.specs.Choice.{Cheapest}
 

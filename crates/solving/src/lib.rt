@@ -41,7 +41,7 @@ fn fold(n: u8, set: u16, v: u16, starts: &[usize; SET_COUNT], workspace: &mut [u
     let end = own.end;
     folding::fold(
         &held[0..len],
-        folding::place_of(set, v),
+        ways::place_of(set, v),
         &mut workspace[start..end],
     );
 }
