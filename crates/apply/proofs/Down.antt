@@ -22,7 +22,7 @@ use Rattle.theory.proofs.Canonical.{level-end, level-record, child-later, node-
 use Rattle.theory.proofs.Nodes.{Ignores}
 use Rattle.theory.proofs.Growth.{grows-none, older, older-level}
 use Rattle.theory.proofs.Descents.{child-end, child-record, comes}
-use Rattle.arguments.specs.declared.level.Levels.{Levels}
+use Rattle.levels.specs.declared.level.Levels.{Levels}
 use Rattle.unique.specs.declared.node.Grown.{Grown}
 use Rattle.unique.specs.declared.node.Found.{Found}
 use Rattle.unique.specs.declared.node.Found.the-variants.{At, Full}

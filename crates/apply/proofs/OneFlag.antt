@@ -16,7 +16,7 @@ use Rattle.theory.proofs.Cofactor.{length-cofactor, cofactor-row, not-depends}
 use Rattle.theory.proofs.Levels.{level-lt}
 use Rattle.theory.proofs.Walks.{rows-eq, length-tabled, tabled-row}
 use Rattle.theory.proofs.Apply.{end-table}
-use Rattle.arguments.specs.declared.level.Levels.{Levels}
+use Rattle.levels.specs.declared.level.Levels.{Levels}
 use Rattle.unique.specs.declared.node.Grown.{Grown}
 use Rattle.unique.specs.Index.{Indexed}
 use Rattle.unique.specs.Node.{foundReply, MakesNode, above}

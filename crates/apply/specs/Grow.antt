@@ -9,8 +9,8 @@ use Rattle.rule.specs.Order.{flags, fitOrder}
 use Rattle.rule.specs.Cells.{mostRecords, room}
 use Rattle.theory.specs.Level.{levelOf}
 use Rattle.theory.specs.Shape.{Shaped}
-use Rattle.arguments.specs.declared.level.Levels.{Levels}
-use Rattle.arguments.specs.Level.{Turned}
+use Rattle.levels.specs.declared.level.Levels.{Levels}
+use Rattle.levels.specs.Level.{Turned}
 use Rattle.unique.specs.declared.node.Grown.{Grown}
 use Rattle.unique.specs.Index.{Indexed}
 use Rattle.unique.specs.Search.{Grew}

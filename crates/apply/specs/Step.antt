@@ -6,8 +6,8 @@ use Prim.Native.Nat.{ℕ, _+_, _≤_, _<_}
 use lib.Dec.{eqb, leb}
 use Rattle.rule.specs.Cells.{room, flagAt, recordOf, isEnd}
 use Rattle.theory.specs.Level.{levelOf}
-use Rattle.arguments.specs.declared.level.Levels.{Levels}
-use Rattle.arguments.specs.Level.{Turned}
+use Rattle.levels.specs.declared.level.Levels.{Levels}
+use Rattle.levels.specs.Level.{Turned}
 
 -- a node whose level can be told
 pub record Stands (l : Levels) (c : List ℕ) (m : ℕ) : Type 0 where

@@ -1,4 +1,4 @@
-use arguments::Levels;
+use levels::Levels;
 use rule::Node;
 use unique::Grown;
 ghost use Prim.Native.Nat.{_<_};

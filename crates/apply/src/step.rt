@@ -1,5 +1,5 @@
 // One step down from a node.
-use arguments::Levels;
+use levels::Levels;
 ghost use mathlib.Core.Path.{_≡_};
 ghost use Prim.Native.Nat.{_+_, _≤_, _<_};
 ghost use Rattle.rule.specs.Cells.{room};

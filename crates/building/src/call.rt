@@ -41,7 +41,7 @@ pub fn build(n: u8, table: &[u8], order: Order, cells: &mut [u16]) -> Drawn
     if refused != 0 {
         return Drawn::Refused(refused);
     }
-    if !arguments::fit_order(order, n) {
+    if !orders::fit_order(order, n) {
         return Drawn::Refused(4);
     }
     if !cells::fit_cells(cells) {

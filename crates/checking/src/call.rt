@@ -27,7 +27,7 @@ pub fn records_refusal(
         ≡ refusal (flagCount n ∷ orderPlaces n (order .places) ∷ lentCells (now (cells .entry)) ∷ records n (order .places) (now (cells .entry)) used ∷ []))
         × (r ≡ 0 → Indexed (now (cells .entry)) used (now (index .exit))) ⌝ }
 {
-    let refused = arguments::order_refusal(n, order);
+    let refused = orders::order_refusal(n, order);
     if refused != 0 {
         return refused;
     }

@@ -13,7 +13,7 @@ use Rattle.rule.specs.Results.{chooseTable}
 use Rattle.theory.specs.Child.{child}
 use Rattle.theory.proofs.Walks.{length-table, length-tabled}
 use Rattle.theory.proofs.Apply.{choose-cofactor, end-table, choose-yes, choose-no, choose-same, choose-ignores}
-use Rattle.arguments.specs.declared.level.Levels.{Levels}
+use Rattle.levels.specs.declared.level.Levels.{Levels}
 use Rattle.unique.specs.declared.node.Grown.{Grown}
 use Rattle.unique.specs.Node.{grown}
 use Rattle.unique.proofs.Branches.{Split}

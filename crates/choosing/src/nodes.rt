@@ -1,6 +1,6 @@
 use apply::both_branches;
 use apply::earlier;
-use arguments::Levels;
+use levels::Levels;
 use rule::Node;
 use unique::Found;
 use unique::Grown;

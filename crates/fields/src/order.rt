@@ -41,7 +41,7 @@ pub fn read_order(file: &[u8], map: u16, step: Step) -> Step
         return refused(11);
     }
     let order = order_at(file, at, n);
-    if !arguments::fit_order(order, n) {
+    if !orders::fit_order(order, n) {
         return refused(4);
     }
     cursor.order = order;

@@ -14,7 +14,7 @@ use Rattle.theory.proofs.Cofactor.{length-cofactor, cofactor-comm}
 use Rattle.theory.proofs.Walks.{length-table}
 use Rattle.theory.proofs.Levels.{level-lt}
 use Rattle.theory.proofs.Apply.{fix-ignores}
-use Rattle.arguments.specs.declared.level.Levels.{Levels}
+use Rattle.levels.specs.declared.level.Levels.{Levels}
 use Rattle.unique.specs.declared.node.Grown.{Grown}
 use Rattle.unique.specs.Node.{grown}
 use Rattle.unique.proofs.Branches.{Split}

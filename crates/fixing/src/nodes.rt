@@ -1,7 +1,7 @@
 use apply::both_branches;
 use apply::branch;
 use apply::level_of;
-use arguments::Levels;
+use levels::Levels;
 use unique::Found;
 use unique::Grown;
 ghost use Prim.Native.Nat.{_<_};

@@ -15,7 +15,7 @@ use Rattle.theory.specs.Child.{child}
 use Rattle.theory.proofs.Canonical.{level-le}
 use Rattle.theory.proofs.Walks.{smaller, walk-end, walk-lt, length-table, length-tabled}
 use Rattle.theory.proofs.Apply.{join-cofactor, join-node, join-ignores}
-use Rattle.arguments.specs.declared.level.Levels.{Levels}
+use Rattle.levels.specs.declared.level.Levels.{Levels}
 use Rattle.unique.specs.declared.node.Grown.{Grown}
 use Rattle.unique.specs.Node.{grown}
 use Rattle.unique.proofs.Branches.{Split}

@@ -2,7 +2,7 @@ use crate::terminal::Terminal;
 use crate::terminal::terminal_case;
 use apply::both_branches;
 use apply::earlier;
-use arguments::Levels;
+use levels::Levels;
 use unique::Found;
 use unique::Grown;
 ghost use Prim.Native.Nat.{_≤_};

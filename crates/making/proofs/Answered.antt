@@ -17,8 +17,8 @@ use Rattle.rule.specs.Calls.{State, withUsed, Make}
 use Rattle.theory.proofs.Refused.{numbered, passed-more}
 use Rattle.theory.proofs.Orders.{fit-order-is}
 use Rattle.theory.proofs.Sound.{sound-shape}
-use Rattle.arguments.specs.declared.level.Levels.{Levels}
-use Rattle.arguments.specs.Level.{Turned}
+use Rattle.levels.specs.declared.level.Levels.{Levels}
+use Rattle.levels.specs.Level.{Turned}
 use Rattle.unique.specs.declared.node.Grown.{Grown}
 use Rattle.unique.specs.declared.node.Found.{Found}
 use Rattle.unique.specs.declared.node.Found.the-variants.{At, Full}

@@ -7,7 +7,7 @@ ghost use Rattle.rule.specs.Refusals.{refusal, openRows, constantRows};
 pub fn open_refusal(n: u8, order: Order, cells: &[u16]) -> u8
     ensures { λ r. ⌜ r ≡ refusal (openRows n (order .places) (now (cells .entry))) ⌝ }
 {
-    let refused = arguments::order_refusal(n, order);
+    let refused = orders::order_refusal(n, order);
     if refused != 0 {
         return refused;
     }

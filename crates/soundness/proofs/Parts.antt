@@ -16,7 +16,7 @@ use Rattle.rule.specs.Cells.{room, flagAt, lowAt, highAt}
 use Rattle.rule.specs.Sound.{flagsBelow, childrenDiffer, childrenSmaller, asksLater, childrenLater, sameRecord, noneEqual, restClear, laid, sound, shaped}
 use Rattle.theory.proofs.Tests.{and-split, below-each}
 use Rattle.theory.proofs.Scan.{fails-below}
-use Rattle.arguments.specs.declared.level.Levels.{Levels}
+use Rattle.levels.specs.declared.level.Levels.{Levels}
 use Rattle.unique.specs.Node.{Finds}
 use Rattle.soundness.specs.Record.{isNew, fitRecord, Child, Next}
 

@@ -8,8 +8,8 @@ use Rattle.rule.specs.Bits.{below}
 use Rattle.rule.specs.Tests.{each}
 use Rattle.rule.specs.Cells.{mostRecords, room, flagAt, lowAt, highAt, recordOf}
 use Rattle.rule.specs.Sound.{asksLater, sameRecord}
-use Rattle.arguments.specs.declared.level.Levels.{Levels}
-use Rattle.arguments.specs.Level.{Turned}
+use Rattle.levels.specs.declared.level.Levels.{Levels}
+use Rattle.levels.specs.Level.{Turned}
 use Rattle.unique.specs.Index.{Indexed}
 
 -- record k equals none before it

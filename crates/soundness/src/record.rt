@@ -1,4 +1,4 @@
-use arguments::Levels;
+use levels::Levels;
 ghost use mathlib.Core.Path.{_≡_};
 ghost use Rattle.rule.specs.Order.{flags};
 ghost use Rattle.rule.specs.Sound.{asksLater};

@@ -1,5 +1,5 @@
 use crate::record::fit_record;
-use arguments::Levels;
+use levels::Levels;
 use rule::Order;
 ghost use mathlib.Core.Path.{_≡_};
 ghost use mathlib.Core.Bool.{true};
@@ -9,7 +9,7 @@ ghost use Rattle.rule.specs.Tests.{each};
 ghost use Rattle.rule.specs.Order.{flags};
 ghost use Rattle.rule.specs.Cells.{mostRecords, room};
 ghost use Rattle.rule.specs.Sound.{sound};
-ghost use Rattle.arguments.specs.Level.{Turned};
+ghost use Rattle.levels.specs.Level.{Turned};
 ghost use Rattle.unique.specs.Index.{emptyIndex, Indexed};
 ghost use Rattle.soundness.specs.Record.{fitRecord};
 

@@ -12,6 +12,7 @@ pub mod Packed
 pub mod Orders
 pub mod Search
 pub mod Scan
+pub mod Times
 pub mod Shape
 pub mod Sound
 pub mod Walks

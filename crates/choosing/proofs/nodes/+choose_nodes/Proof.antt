@@ -13,7 +13,7 @@ use Rattle.choosing.proofs.nodes.+choose_nodes.Lts-choose_nodes as choo
 use Rattle.choosing.proofs.nodes.found.Reads as found-reads
 use Rattle.apply.proofs.both_branches.Reads as both-branches-reads
 use Rattle.apply.proofs.earlier.Reads as earlier-reads
-use Rattle.arguments.proofs.level.Levels.level.Reads as level-reads
+use Rattle.levels.proofs.level.Levels.level.Reads as level-reads
 use Rattle.cells.proofs.flag_at.Reads as flag-at-reads
 use Rattle.unique.proofs.make_above.Reads as make-above-reads
 use Rattle.choosing.proofs.nodes.+choose_nodes.{statement}

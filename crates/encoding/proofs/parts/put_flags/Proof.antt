@@ -3,7 +3,7 @@
 use native.Mathlib.Nat.{sub-zero}
 use native.Mathlib.Omega.{arith}
 use borrow.Author.Needs.{needs}
-use Rattle.arguments.proofs.Times.{ten}
+use Rattle.theory.proofs.Times.{ten}
 use Rattle.encoding.proofs.parts.put_flags.Statement.{statement}
 use Rattle.encoding.proofs.parts.put_flags.Tie as tie
 

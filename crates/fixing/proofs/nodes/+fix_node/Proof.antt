@@ -13,7 +13,7 @@ use Rattle.fixing.proofs.nodes.+fix_node.Lts-fix_node as fix-node-lts
 use Rattle.apply.proofs.both_branches.Reads as both-branches-reads
 use Rattle.apply.proofs.branch.Reads as branch-reads
 use Rattle.apply.proofs.level_of.Reads as level-of-reads
-use Rattle.arguments.proofs.level.Levels.level.Reads as level-reads
+use Rattle.levels.proofs.level.Levels.level.Reads as level-reads
 use Rattle.cells.proofs.flag_at.Reads as flag-at-reads
 use Rattle.unique.proofs.make_above.Reads as make-above-reads
 use Rattle.fixing.proofs.nodes.+fix_node.{statement}

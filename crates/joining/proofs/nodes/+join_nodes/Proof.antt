@@ -14,7 +14,7 @@ use Rattle.joining.proofs.nodes.+join_nodes.Lts-join_nodes as join-node
 use Rattle.joining.proofs.terminal.terminal_case.Reads as terminal-case-reads
 use Rattle.apply.proofs.both_branches.Reads as both-branches-reads
 use Rattle.apply.proofs.earlier.Reads as earlier-reads
-use Rattle.arguments.proofs.level.Levels.level.Reads as level-reads
+use Rattle.levels.proofs.level.Levels.level.Reads as level-reads
 use Rattle.cells.proofs.flag_at.Reads as flag-at-reads
 use Rattle.unique.proofs.make_above.Reads as make-above-reads
 use Rattle.joining.proofs.nodes.+join_nodes.{statement}

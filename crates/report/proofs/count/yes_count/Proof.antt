@@ -10,7 +10,7 @@ use lib.ListN.{length, take}
 use lib.Seq.{take-all}
 use Rattle.rule.specs.Tests.{keep}
 use Rattle.rule.specs.Order.{times}
-use Rattle.arguments.proofs.Times.{times-hit, times-miss}
+use Rattle.theory.proofs.Times.{times-hit, times-miss}
 use Rattle.report.proofs.count.yes_count.Statement.{statement}
 use Rattle.report.proofs.count.yes_count.Tie as tie
 

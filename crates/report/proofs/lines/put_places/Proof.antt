@@ -8,7 +8,7 @@ use lib.ListN.{length, take}
 use Rattle.rule.specs.Listing.{numbers}
 use Rattle.runs.specs.Run.{Puts}
 use Rattle.runs.proofs.Puts.{puts-none}
-use Rattle.arguments.proofs.Times.{ten}
+use Rattle.theory.proofs.Times.{ten}
 use Rattle.report.proofs.Printed.{puts-place}
 use Rattle.report.proofs.lines.put_places.Statement.{statement}
 use Rattle.report.proofs.lines.put_places.Tie as tie

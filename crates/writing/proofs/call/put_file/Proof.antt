@@ -11,7 +11,7 @@ use lib.Seq.{length-take-le}
 use Rattle.rule.specs.Order.{flags}
 use Rattle.rule.specs.Cells.{recordsIn}
 use Rattle.rule.specs.Files.{two, ifSome, recordBytes}
-use Rattle.arguments.proofs.Times.{ten}
+use Rattle.theory.proofs.Times.{ten}
 use Rattle.writing.proofs.Written.{file-parts, file-puts}
 use Rattle.writing.proofs.call.put_file.Statement.{statement}
 use Rattle.writing.proofs.call.put_file.Tie as tie

@@ -3,7 +3,7 @@
 use mathlib.Core.List.{[], _∷_}
 use borrow.Author.Needs.{needs}
 use denote.Ref.{now}
-use Rattle.arguments.proofs.Times.{ten}
+use Rattle.theory.proofs.Times.{ten}
 use Rattle.writing.proofs.Written.{check-refuses, check-passes}
 use Rattle.writing.proofs.call.write_refusal.Statement.{statement}
 use Rattle.writing.proofs.call.write_refusal.Tie as tie

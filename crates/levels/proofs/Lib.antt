@@ -1,3 +1,2 @@
-pub mod Times
 pub mod Passed
 pub mod Turning

@@ -1,8 +1,8 @@
--- `arguments::level::Levels::level` meets its contract: it stands at the flag's place.
+-- `levels::level::Levels::level` meets its contract: it stands at the flag's place.
 -- Assumes nothing.
 use borrow.Author.Needs.{needs}
-use Rattle.arguments.proofs.level.Levels.level.Statement.{statement}
-use Rattle.arguments.proofs.level.Levels.level.Tie as tie
+use Rattle.levels.proofs.level.Levels.level.Statement.{statement}
+use Rattle.levels.proofs.level.Levels.level.Tie as tie
 
 returns : tie.Need-returns
 returns c = c .before .pre .0 .is _ (c .before .pre .1)

@@ -1,10 +1,10 @@
--- `arguments::order::order_refusal` meets its contract: each way rewrites with the tests that led to it.
+-- `orders::order::order_refusal` meets its contract: each way rewrites with the tests that led to it.
 -- Assumes nothing.
 use mathlib.Core.Path.{sym, _∙_}
 use borrow.Author.Needs.{needs}
 use borrow.Author.Tests.{lt-ltb, le-ltb}
-use Rattle.arguments.proofs.order.order_refusal.Statement.{statement}
-use Rattle.arguments.proofs.order.order_refusal.Tie as tie
+use Rattle.orders.proofs.order.order_refusal.Statement.{statement}
+use Rattle.orders.proofs.order.order_refusal.Tie as tie
 
 returns : tie.Need-returns
 returns c = rw (lt-ltb _ _ (c .if1 .taken))

@@ -2,7 +2,7 @@ use rule::Order;
 ghost use mathlib.Core.Path.{_≡_};
 ghost use Prim.Native.Nat.{_≤_, _<_};
 ghost use Rattle.rule.specs.Order.{flags, level};
-ghost use Rattle.arguments.specs.Level.{Turned};
+ghost use Rattle.levels.specs.Level.{Turned};
 
 // An order of n flags, and the same turned round: the level of each flag, its place in the order.
 pub struct Levels {

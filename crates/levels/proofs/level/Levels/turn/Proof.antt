@@ -1,13 +1,13 @@
--- `arguments::level::Levels::turn` meets its contract: the level of each flag passed stands at its place.
+-- `levels::level::Levels::turn` meets its contract: the level of each flag passed stands at its place.
 -- Assumes nothing.
 use mathlib.Core.Path.{refl}
 use Prim.Native.Nat.{ℕ, _-_}
 use native.Mathlib.Omega.{arith}
 use borrow.Author.Needs.{needs}
 use lib.ListN.{length-replicate}
-use Rattle.arguments.proofs.Turning.{Turning, turning-more}
-use Rattle.arguments.proofs.level.Levels.turn.Statement.{statement}
-use Rattle.arguments.proofs.level.Levels.turn.Tie as tie
+use Rattle.levels.proofs.Turning.{Turning, turning-more}
+use Rattle.levels.proofs.level.Levels.turn.Statement.{statement}
+use Rattle.levels.proofs.level.Levels.turn.Tie as tie
 
 abbrev Inv-loop : tie.InvT-loop
 Inv-loop n order places₀ v₀ places v = Turning n (order .places) places v

@@ -4,7 +4,7 @@ use mathlib.Core.Path.{_≡_}
 use Prim.Native.Nat.{ℕ, _≤_, _<_}
 use lib.ListN.{getD}
 use Rattle.rule.specs.Order.{places, flags, level}
-use Rattle.arguments.specs.declared.level.Levels.{Levels}
+use Rattle.levels.specs.declared.level.Levels.{Levels}
 
 -- the level of each flag stands at the flag's place
 pub record Turned (l : Levels) : Type 0 where

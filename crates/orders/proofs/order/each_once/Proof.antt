@@ -1,4 +1,4 @@
--- `arguments::order::each_once` meets its contract: each flag passed stands once.
+-- `orders::order::each_once` meets its contract: each flag passed stands once.
 -- Assumes nothing.
 use Prim.Native.Nat.{ℕ, _≤_, _<_, _-_}
 use mathlib.Core.Path.{_≡_, sym, _∙_}
@@ -12,8 +12,8 @@ use lib.Dec.{eqb}
 use Rattle.rule.specs.Order.{flags, times, eachOnce}
 use Rattle.theory.proofs.Tests.{below-each}
 use Rattle.theory.proofs.Scan.{fails-below}
-use Rattle.arguments.proofs.order.each_once.Statement.{statement}
-use Rattle.arguments.proofs.order.each_once.Tie as tie
+use Rattle.orders.proofs.order.each_once.Statement.{statement}
+use Rattle.orders.proofs.order.each_once.Tie as tie
 
 abbrev Inv-loop : tie.InvT-loop
 Inv-loop order n v₀ v = (v ≤ n) × ((k : ℕ) → k < v → eqb (times k (flags n (order .places))) 1 ≡ true)

@@ -1,12 +1,12 @@
--- `arguments::level::level_of` meets its contract: the places passed name other flags.
+-- `levels::level::level_of` meets its contract: the places passed name other flags.
 -- Assumes nothing.
 use Prim.Native.Nat.{_-_}
 use native.Mathlib.Omega.{arith}
 use borrow.Author.Needs.{needs}
-use Rattle.arguments.proofs.Times.{ten}
-use Rattle.arguments.proofs.Passed.{Passed, passed-none, passed-more, level-found, level-none}
-use Rattle.arguments.proofs.level.level_of.Statement.{statement}
-use Rattle.arguments.proofs.level.level_of.Tie as tie
+use Rattle.theory.proofs.Times.{ten}
+use Rattle.levels.proofs.Passed.{Passed, passed-none, passed-more, level-found, level-none}
+use Rattle.levels.proofs.level.level_of.Statement.{statement}
+use Rattle.levels.proofs.level.level_of.Tie as tie
 
 abbrev Inv-loop : tie.InvT-loop
 Inv-loop n v places i₀ i = Passed places n v i

@@ -1,4 +1,4 @@
--- `arguments::order::times` meets its contract: the count is that of the places passed.
+-- `orders::order::times` meets its contract: the count is that of the places passed.
 -- Assumes nothing.
 use Prim.Native.Nat.{ℕ, _+_, _≤_, _<_, _-_}
 use mathlib.Core.Path.{_≡_, refl, sym, ap, _∙_}
@@ -8,9 +8,9 @@ use borrow.Author.Needs.{needs}
 use lib.ListN.{length, take}
 use Rattle.rule.specs.Tests.{keep}
 use Rattle.rule.specs.Order.{times}
-use Rattle.arguments.proofs.Times.{ten, times-hit, times-miss}
-use Rattle.arguments.proofs.order.times.Statement.{statement}
-use Rattle.arguments.proofs.order.times.Tie as tie
+use Rattle.theory.proofs.Times.{ten, times-hit, times-miss}
+use Rattle.orders.proofs.order.times.Statement.{statement}
+use Rattle.orders.proofs.order.times.Tie as tie
 
 abbrev Inv-loop : tie.InvT-loop
 Inv-loop n v places count₀ i₀ count i = (i ≤ n) × (count ≤ i) × (count ≡ times v (take i places)) × (length places ≡ 10)

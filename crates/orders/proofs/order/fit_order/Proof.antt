@@ -1,10 +1,10 @@
--- `arguments::order::fit_order` meets its contract: both tests, or the first that fails.
+-- `orders::order::fit_order` meets its contract: both tests, or the first that fails.
 -- Assumes nothing.
 use mathlib.Core.Path.{sym, _∙_}
 use borrow.Author.Needs.{needs}
 use Rattle.rule.specs.Order.{fitOrder}
-use Rattle.arguments.proofs.order.fit_order.Statement.{statement}
-use Rattle.arguments.proofs.order.fit_order.Tie as tie
+use Rattle.orders.proofs.order.fit_order.Statement.{statement}
+use Rattle.orders.proofs.order.fit_order.Tie as tie
 
 returns : tie.Need-returns
 unfolding fitOrder

@@ -1,4 +1,4 @@
--- `arguments::order::rest_zero` meets its contract: each place passed is 0.
+-- `orders::order::rest_zero` meets its contract: each place passed is 0.
 -- Assumes nothing.
 use Prim.Native.Nat.{ℕ, _≤_, _<_, _-_}
 use mathlib.Core.Path.{_≡_, sym}
@@ -10,9 +10,9 @@ use lib.Dec.{eqb}
 use lib.ListN.{length, getD}
 use Rattle.rule.specs.Order.{restZero}
 use Rattle.theory.proofs.Scan.{drop-fails, drop-holds}
-use Rattle.arguments.proofs.Times.{ten}
-use Rattle.arguments.proofs.order.rest_zero.Statement.{statement}
-use Rattle.arguments.proofs.order.rest_zero.Tie as tie
+use Rattle.theory.proofs.Times.{ten}
+use Rattle.orders.proofs.order.rest_zero.Statement.{statement}
+use Rattle.orders.proofs.order.rest_zero.Tie as tie
 
 abbrev Inv-loop : tie.InvT-loop
 Inv-loop n places i₀ i = (n ≤ i) × (i ≤ 10) × (length places ≡ 10) × ((k : ℕ) → k < i → n ≤ k → getD places k 0 ≡ 0)
