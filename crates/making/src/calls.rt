@@ -1,7 +1,7 @@
-use apply::Outcome;
-use apply::conclude;
-use apply::refuse;
 use arguments::Levels;
+use concluding::Outcome;
+use concluding::conclude;
+use concluding::refuse;
 use rule::Node;
 use rule::Order;
 ghost use Rattle.rule.specs.Answers.{madeReply};
