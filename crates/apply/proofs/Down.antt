@@ -26,7 +26,7 @@ use Rattle.levels.specs.declared.level.Levels.{Levels}
 use Rattle.unique.specs.declared.node.Grown.{Grown}
 use Rattle.unique.specs.declared.node.Found.{Found}
 use Rattle.unique.specs.declared.node.Found.the-variants.{At, Full}
-use Rattle.unique.specs.Index.{Indexed}
+use Rattle.record_index.specs.Index.{Indexed}
 use Rattle.unique.specs.Node.{grown, MakesAbove}
 use Rattle.unique.specs.Search.{FoundAs, Grew}
 use Rattle.unique.proofs.Branches.{Split, no-room-low, both-branches}

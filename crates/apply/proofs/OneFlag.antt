@@ -18,7 +18,7 @@ use Rattle.theory.proofs.Walks.{rows-eq, length-tabled, tabled-row}
 use Rattle.theory.proofs.Apply.{end-table}
 use Rattle.levels.specs.declared.level.Levels.{Levels}
 use Rattle.unique.specs.declared.node.Grown.{Grown}
-use Rattle.unique.specs.Index.{Indexed}
+use Rattle.record_index.specs.Index.{Indexed}
 use Rattle.unique.specs.Node.{foundReply, MakesNode, above}
 use Rattle.unique.proofs.Branches.{Split}
 use Rattle.apply.specs.Grow.{Ready, Comes}

@@ -12,7 +12,7 @@ use Rattle.theory.specs.Shape.{Shaped}
 use Rattle.levels.specs.declared.level.Levels.{Levels}
 use Rattle.levels.specs.Level.{Turned}
 use Rattle.unique.specs.declared.node.Grown.{Grown}
-use Rattle.unique.specs.Index.{Indexed}
+use Rattle.record_index.specs.Index.{Indexed}
 use Rattle.unique.specs.Search.{Grew}
 
 -- a fit order turned round, and sound cells whose records are entered in the index

@@ -10,7 +10,7 @@ pub fn flag_node(
     levels: Levels,
     flag: u16,
     cells: &mut [u16],
-    index: &mut [u16; unique::INDEX],
+    index: &mut [u16; record_index::INDEX],
     used: u16,
 ) -> Grown
     requires { ⌜ (flag < levels .n) × Ready levels (now cells) used (now index) ⌝ }

@@ -14,7 +14,7 @@ fn fill(n: u8, table: &[u8], order: Order, cells: &mut [u16]) -> Grown
     ensures { λ r. ⌜ Fills n (now (table .entry)) (order .places) (now (cells .entry)) r (now (cells .exit)) ⌝ }
 {
     let mut held = [0u16; cells::MOST];
-    let mut index = [0u16; unique::INDEX];
+    let mut index = [0u16; record_index::INDEX];
     let len = cells.len();
     let grown = draw(n, table, order, 0, 0, &mut held[0..len], &mut index, 0);
     let found = grown.found;

@@ -4,7 +4,7 @@ use unique::Found;
 use unique::Grown;
 ghost use mathlib.Core.Path.{_≡_};
 ghost use Prim.Native.Nat.{_<_};
-ghost use Rattle.unique.specs.Index.{Indexed};
+ghost use Rattle.record_index.specs.Index.{Indexed};
 ghost use Rattle.building.specs.Draw.{Drawing, Draw};
 
 // The end node that gives the answer.
@@ -26,7 +26,7 @@ pub fn draw(
     at: u8,
     row: u16,
     cells: &mut [u16],
-    index: &mut [u16; unique::INDEX],
+    index: &mut [u16; record_index::INDEX],
     used: u16,
 ) -> Grown
     requires { ⌜ Drawing n (now table) (order .places) at row (now cells) used × Indexed (now cells) used (now index) ⌝ }

@@ -11,7 +11,7 @@ ghost use Rattle.rule.specs.Diagram.{diagram};
 ghost use Rattle.rule.specs.Refusals.{refusal, flagCount, orderPlaces, cells as lentCells, records};
 ghost use Rattle.rule.specs.Answers.{countedReply};
 ghost use Rattle.rule.specs.Calls.{Check};
-ghost use Rattle.unique.specs.Index.{emptyIndex, Indexed};
+ghost use Rattle.record_index.specs.Index.{emptyIndex, Indexed};
 
 // The refusal of lent cells with so many used records, 0 for none: 1, 4, 5, then 6.
 // Where there is none, the used records are entered in the index.
@@ -20,7 +20,7 @@ pub fn records_refusal(
     order: Order,
     cells: &[u16],
     used: u16,
-    index: &mut [u16; unique::INDEX],
+    index: &mut [u16; record_index::INDEX],
 ) -> u8
     requires { ⌜ now index ≡ emptyIndex ⌝ }
     ensures { λ r. ⌜ (r
@@ -44,7 +44,7 @@ pub fn records_refusal(
 pub fn check(n: u8, order: Order, cells: &[u16], used: u16, root: Node) -> Counted
     ensures { λ r. ⌜ Check n (order .places) (now (cells .entry)) used (root .number) (countedReply r) ⌝ }
 {
-    let mut index = [0u16; unique::INDEX];
+    let mut index = [0u16; record_index::INDEX];
     let refused = records_refusal(n, order, cells, used, &mut index);
     if refused != 0 {
         return Counted::Refused(refused);
@@ -64,7 +64,7 @@ pub fn is_diagram(n: u8, order: Order, cells: &[u16], used: u16, root: u16) -> b
     requires { ⌜ (n ≤ 10) × (room (now cells) ≤ mostRecords) × (root ≤ used + 1) ⌝ }
     ensures { λ r. ⌜ r ≡ diagram n (order .places) (now (cells .entry)) used root ⌝ }
 {
-    let mut index = [0u16; unique::INDEX];
+    let mut index = [0u16; record_index::INDEX];
     if sound(n, order, cells, used, &mut index) {
         return all_reached(cells, used, root);
     }

@@ -27,7 +27,7 @@ pub fn choose_nodes(
     g: u16,
     h: u16,
     cells: &mut [u16],
-    index: &mut [u16; unique::INDEX],
+    index: &mut [u16; record_index::INDEX],
     used: u16,
 ) -> Grown
     requires { ⌜ Ready levels (now cells) used (now index) × From levels (now cells) used at f × From levels (now cells) used at g × From levels (now cells) used at h ⌝ }

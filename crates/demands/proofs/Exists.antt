@@ -28,7 +28,8 @@ use Rattle.unique.specs.declared.node.Grown.{Grown}
 use Rattle.unique.specs.declared.node.Found.{Found}
 use Rattle.unique.specs.declared.node.Found.the-variants.{At, Full}
 use Rattle.cells.specs.Record.{putRecord}
-use Rattle.unique.specs.Node.{foundReply, grown, Is, None, MakesNode, child, old, new, full, above, none}
+use Rattle.record_index.specs.Find.{Is, None}
+use Rattle.unique.specs.Node.{foundReply, grown, MakesNode, child, old, new, full, above, none}
 use Rattle.unique.specs.Search.{Grew}
 use Rattle.building.specs.Draw.{Drawing, Draw}
 use Rattle.building.specs.Fill.{Fits}

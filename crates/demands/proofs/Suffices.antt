@@ -31,7 +31,7 @@ use Rattle.theory.proofs.Walks.{node, smaller, table-kept}
 use Rattle.theory.proofs.Canonical.{level-end, level-record, child-later, mix, table-mix, canonical, asks, depends-asks}
 use Rattle.theory.proofs.Counting.{record-node}
 use Rattle.theory.proofs.Needed.{needed-least, needed-most}
-use Rattle.unique.specs.Node.{None}
+use Rattle.record_index.specs.Find.{None}
 use Rattle.cells.proofs.Added.{Added, longer, added-longer}
 use Rattle.unique.proofs.Extend.{Allowed, extended}
 use Rattle.demands.proofs.Counts.{drawn-diagram}

@@ -16,7 +16,7 @@ pub fn fix_node(
     at: u8,
     m: u16,
     cells: &mut [u16],
-    index: &mut [u16; unique::INDEX],
+    index: &mut [u16; record_index::INDEX],
     used: u16,
 ) -> Grown
     requires { ⌜ (flag < levels .n) × (value < 2) × Ready levels (now cells) used (now index) × From levels (now cells) used at m ⌝ }

@@ -17,7 +17,7 @@ pub fn join_nodes(
     f: u16,
     g: u16,
     cells: &mut [u16],
-    index: &mut [u16; unique::INDEX],
+    index: &mut [u16; record_index::INDEX],
     used: u16,
 ) -> Grown
     requires { ⌜ (code ≤ 15) × Ready levels (now cells) used (now index) × From levels (now cells) used at f × From levels (now cells) used at g ⌝ }

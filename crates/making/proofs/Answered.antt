@@ -27,8 +27,8 @@ use Rattle.unique.proofs.Settled.{Settled, Unsettled, settled, unsettled}
 use Rattle.checking.proofs.Refused.{Taken}
 use Rattle.checking.proofs.Parts.{fit-room, sound-room}
 use Rattle.apply.specs.Grow.{Ready, From, Comes}
-use Rattle.apply.specs.declared.ending.Outcome.{Outcome}
-use Rattle.apply.specs.Conclude.{Concludes}
+use Rattle.concluding.specs.declared.ending.Outcome.{Outcome}
+use Rattle.concluding.specs.Conclude.{Concludes}
 use Rattle.refusing.specs.Tested.{testedRows, Tested}
 use Rattle.refusing.proofs.Rows.{still-refused, taken}
 

@@ -1,6 +1,6 @@
-use apply::Outcome;
-use apply::conclude;
-use apply::refuse;
+use concluding::Outcome;
+use concluding::conclude;
+use concluding::refuse;
 use levels::Levels;
 use rule::Node;
 use rule::Order;
@@ -12,7 +12,7 @@ ghost use Rattle.making.specs.State.{state};
 pub fn flag(n: u8, order: Order, cells: &mut [u16], used: u16, i: u16) -> Outcome
     ensures { λ r. ⌜ Flag (state n (order .places) used) (now (cells .entry)) i (madeReply (r .answer)) (state n (order .places) (r .used)) (now (cells .exit)) ⌝ }
 {
-    let mut index = [0u16; unique::INDEX];
+    let mut index = [0u16; record_index::INDEX];
     let refused = refusing::flag_refusal(n, order, cells, used, i, &mut index);
     if refused != 0 {
         return refuse(used, refused);
@@ -36,7 +36,7 @@ pub fn join(
 {
     let f = first.number;
     let g = second.number;
-    let mut index = [0u16; unique::INDEX];
+    let mut index = [0u16; record_index::INDEX];
     let refused = refusing::join_refusal(n, order, cells, used, code, f, g, &mut index);
     if refused != 0 {
         return refuse(used, refused);
@@ -61,7 +61,7 @@ pub fn choose(
     let f = first.number;
     let g = second.number;
     let h = third.number;
-    let mut index = [0u16; unique::INDEX];
+    let mut index = [0u16; record_index::INDEX];
     let refused = refusing::nodes_refusal(n, order, cells, used, f, g, h, &mut index);
     if refused != 0 {
         return refuse(used, refused);
@@ -84,7 +84,7 @@ pub fn fix(
     ensures { λ r. ⌜ Fix (state n (order .places) used) (now (cells .entry)) (rule .number) i value (madeReply (r .answer)) (state n (order .places) (r .used)) (now (cells .exit)) ⌝ }
 {
     let m = rule.number;
-    let mut index = [0u16; unique::INDEX];
+    let mut index = [0u16; record_index::INDEX];
     let refused = refusing::fix_refusal(n, order, cells, used, m, i, value, &mut index);
     if refused != 0 {
         return refuse(used, refused);

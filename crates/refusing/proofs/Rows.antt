@@ -13,7 +13,7 @@ use Rattle.theory.proofs.Tests.{and-split}
 use Rattle.theory.proofs.Refused.{numbered, refused-more, passed-more}
 use Rattle.checking.proofs.Refused.{cellRows, Taken, rows-passed}
 use Rattle.checking.proofs.Parts.{fit-room, sound-room}
-use Rattle.unique.specs.Index.{Indexed}
+use Rattle.record_index.specs.Index.{Indexed}
 use Rattle.refusing.specs.Tested.{nodeRows, testedRows, Tested}
 
 -- ---- a number that some rows give, with more rows behind them

@@ -5,7 +5,7 @@ use mathlib.Core.List.{List, _∷_, _++_, map}
 use Prim.Native.Nat.{ℕ}
 use Rattle.rule.specs.Results.{Making, rulesAmong}
 use Rattle.rule.specs.Refusals.{Row, refusal, flagCount, orderPlaces, cells, records, node, argumentRows}
-use Rattle.unique.specs.Index.{Indexed}
+use Rattle.record_index.specs.Index.{Indexed}
 
 -- the rows of lent cells, and 7 for each of some nodes
 abbrev pub nodeRows : ℕ → List ℕ → List ℕ → ℕ → List ℕ → List Row

@@ -4,7 +4,7 @@ use crate::nodes::nodes_refusal;
 use rule::Order;
 ghost use mathlib.Core.Path.{_≡_};
 ghost use Rattle.rule.specs.Results.{flag, join, fix};
-ghost use Rattle.unique.specs.Index.{emptyIndex};
+ghost use Rattle.record_index.specs.Index.{emptyIndex};
 ghost use Rattle.refusing.specs.Tested.{testedRows, Tested};
 
 // Flag's: 1, 4, 5, 6, then 9.
@@ -14,7 +14,7 @@ pub fn flag_refusal(
     cells: &[u16],
     used: u16,
     i: u16,
-    index: &mut [u16; unique::INDEX],
+    index: &mut [u16; record_index::INDEX],
 ) -> u8
     requires { ⌜ now index ≡ emptyIndex ⌝ }
     ensures { λ r. ⌜ Tested (testedRows n (order .places) (now (cells .entry)) used (flag i)) (now (cells .entry)) used r (now (index .exit)) ⌝ }
@@ -38,7 +38,7 @@ pub fn join_refusal(
     code: u8,
     f: u16,
     g: u16,
-    index: &mut [u16; unique::INDEX],
+    index: &mut [u16; record_index::INDEX],
 ) -> u8
     requires { ⌜ now index ≡ emptyIndex ⌝ }
     ensures { λ r. ⌜ Tested (testedRows n (order .places) (now (cells .entry)) used (join code f g)) (now (cells .entry)) used r (now (index .exit)) ⌝ }
@@ -62,7 +62,7 @@ pub fn fix_refusal(
     m: u16,
     i: u16,
     value: u16,
-    index: &mut [u16; unique::INDEX],
+    index: &mut [u16; record_index::INDEX],
 ) -> u8
     requires { ⌜ now index ≡ emptyIndex ⌝ }
     ensures { λ r. ⌜ Tested (testedRows n (order .places) (now (cells .entry)) used (fix m i value)) (now (cells .entry)) used r (now (index .exit)) ⌝ }

@@ -1,7 +1,7 @@
 use rule::Order;
 ghost use mathlib.Core.Path.{_≡_};
 ghost use mathlib.Core.List.{[], _∷_};
-ghost use Rattle.unique.specs.Index.{emptyIndex};
+ghost use Rattle.record_index.specs.Index.{emptyIndex};
 ghost use Rattle.refusing.specs.Tested.{nodeRows, Tested};
 
 // The refusal of lent cells and three nodes: 1, 4, 5, 6, then 7. A call with fewer nodes names one of them again.
@@ -14,7 +14,7 @@ pub fn nodes_refusal(
     f: u16,
     g: u16,
     h: u16,
-    index: &mut [u16; unique::INDEX],
+    index: &mut [u16; record_index::INDEX],
 ) -> u8
     requires { ⌜ now index ≡ emptyIndex ⌝ }
     ensures { λ r. ⌜ Tested (nodeRows n (order .places) (now (cells .entry)) used (f ∷ g ∷ h ∷ [])) (now (cells .entry)) used r (now (index .exit)) ⌝ }

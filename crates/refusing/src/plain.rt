@@ -21,7 +21,7 @@ pub fn open_refusal(n: u8, order: Order, cells: &[u16]) -> u8
 pub fn constant_refusal(n: u8, order: Order, cells: &[u16], used: u16, value: u16) -> u8
     ensures { λ r. ⌜ r ≡ refusal (constantRows n (order .places) (now (cells .entry)) used value) ⌝ }
 {
-    let mut index = [0u16; unique::INDEX];
+    let mut index = [0u16; record_index::INDEX];
     let refused = checking::records_refusal(n, order, cells, used, &mut index);
     if refused != 0 {
         return refused;

@@ -17,7 +17,7 @@ use Rattle.rule.specs.Sound.{flagsBelow, childrenDiffer, childrenSmaller, asksL
 use Rattle.theory.proofs.Tests.{and-split, below-each}
 use Rattle.theory.proofs.Scan.{fails-below}
 use Rattle.levels.specs.declared.level.Levels.{Levels}
-use Rattle.unique.specs.Node.{Finds}
+use Rattle.record_index.specs.Find.{Finds}
 use Rattle.soundness.specs.Record.{isNew, fitRecord, Child, Next}
 
 fails : (b : Bool) → (b ≡ true → ⊥) → b ≡ false

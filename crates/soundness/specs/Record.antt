@@ -10,7 +10,7 @@ use Rattle.rule.specs.Cells.{mostRecords, room, flagAt, lowAt, highAt, recordOf
 use Rattle.rule.specs.Sound.{asksLater, sameRecord}
 use Rattle.levels.specs.declared.level.Levels.{Levels}
 use Rattle.levels.specs.Level.{Turned}
-use Rattle.unique.specs.Index.{Indexed}
+use Rattle.record_index.specs.Index.{Indexed}
 
 -- record k equals none before it
 unfoldable pub isNew : List ℕ → ℕ → Bool

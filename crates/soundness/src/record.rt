@@ -17,7 +17,7 @@ fn asks_later(levels: Levels, cells: &[u16], v: u16, m: u16) -> bool
 }
 
 // Whether record k is sound by itself and beside the records before it, which are sound and entered in the index.
-pub fn fit_record(levels: Levels, cells: &[u16], index: &[u16; unique::INDEX], k: u16) -> bool
+pub fn fit_record(levels: Levels, cells: &[u16], index: &[u16; record_index::INDEX], k: u16) -> bool
     requires { ⌜ Next levels (now cells) k (now index) ⌝ }
     ensures { λ r. ⌜ r ≡ fitRecord (levels .n) (flags (levels .n) (levels .order .places)) (now (cells .entry)) k ⌝ }
 {
@@ -40,7 +40,7 @@ pub fn fit_record(levels: Levels, cells: &[u16], index: &[u16; unique::INDEX], k
     if asks_later(levels, cells, flag, low) {
         if asks_later(levels, cells, flag, high) {
             // It is new where the records before it have none that is the same.
-            return unique::find(cells, index, k, flag, low, high) == k;
+            return record_index::find(cells, index, k, flag, low, high) == k;
         }
     }
     false

@@ -10,11 +10,11 @@ ghost use Rattle.rule.specs.Order.{flags};
 ghost use Rattle.rule.specs.Cells.{mostRecords, room};
 ghost use Rattle.rule.specs.Sound.{sound};
 ghost use Rattle.levels.specs.Level.{Turned};
-ghost use Rattle.unique.specs.Index.{emptyIndex, Indexed};
+ghost use Rattle.record_index.specs.Index.{emptyIndex, Indexed};
 ghost use Rattle.soundness.specs.Record.{fitRecord};
 
 // Whether each used record is sound. All of them are then entered in the index.
-fn all_fit(levels: Levels, cells: &[u16], used: u16, index: &mut [u16; unique::INDEX]) -> bool
+fn all_fit(levels: Levels, cells: &[u16], used: u16, index: &mut [u16; record_index::INDEX]) -> bool
     requires { ⌜ Turned levels × (used ≤ room (now cells)) × (room (now cells) ≤ mostRecords) × (now index ≡ emptyIndex) ⌝ }
     ensures { λ r. ⌜ (r ≡ each (fitRecord (levels .n) (flags (levels .n) (levels .order .places)) (now (cells .entry))) (below used))
         × (r ≡ true → Indexed (now (cells .entry)) used (now (index .exit))) ⌝ }
@@ -24,7 +24,7 @@ fn all_fit(levels: Levels, cells: &[u16], used: u16, index: &mut [u16; unique::I
         if !fit_record(levels, cells, index, k) {
             return false;
         }
-        unique::enter(cells, index, k);
+        record_index::enter(cells, index, k);
         k += 1;
     }
     true
@@ -36,7 +36,7 @@ pub fn sound(
     order: Order,
     cells: &[u16],
     used: u16,
-    index: &mut [u16; unique::INDEX],
+    index: &mut [u16; record_index::INDEX],
 ) -> bool
     requires { ⌜ (n ≤ 10) × (room (now cells) ≤ mostRecords) × (now index ≡ emptyIndex) ⌝ }
     ensures { λ r. ⌜ (r ≡ sound n (order .places) (now (cells .entry)) used) × (r ≡ true → Indexed (now (cells .entry)) used (now (index .exit))) ⌝ }

@@ -13,7 +13,7 @@ use Rattle.theory.specs.Level.{levelOf}
 use Rattle.theory.specs.Shape.{Shaped}
 use Rattle.theory.proofs.Walks.{flag-kept, low-kept, high-kept}
 use Rattle.theory.proofs.Canonical.{level-record}
-use Rattle.unique.specs.Node.{None}
+use Rattle.record_index.specs.Find.{None}
 
 -- a record that the order and the older records allow
 pub record Allowed (n : ℕ) (order c : List ℕ) (used v low high : ℕ) : Type 0 where

@@ -1,4 +1,3 @@
-pub mod Chain
 pub mod Extend
 pub mod Search
 pub mod Branches

@@ -9,6 +9,7 @@ use Rattle.rule.specs.Order.{flags, level}
 use Rattle.rule.specs.Walk.{tableOf}
 use Rattle.rule.specs.Reply.{Reply, accepted, refused, numberOf}
 use Rattle.cells.proofs.Record.{put-length}
+use Rattle.record_index.specs.Find.{None}
 use Rattle.theory.proofs.Member.{In, cast}
 use Rattle.theory.proofs.Sets.{Order}
 use Rattle.theory.specs.Growth.{Grows}
@@ -20,7 +21,7 @@ use Rattle.theory.proofs.Growth.{grows-none}
 use Rattle.unique.specs.declared.node.Grown.{Grown}
 use Rattle.unique.specs.declared.node.Found.{Found}
 use Rattle.unique.specs.declared.node.Found.the-variants.{At, Full}
-use Rattle.unique.specs.Node.{foundReply, None, MakesNode, child, old, new, full}
+use Rattle.unique.specs.Node.{foundReply, MakesNode, child, old, new, full}
 use Rattle.unique.specs.Search.{Named, Grew}
 use Rattle.cells.proofs.Added.{Added, added-put, added-longer}
 use Rattle.unique.proofs.Extend.{Allowed, extended}

@@ -2,10 +2,11 @@
 -- Assumes nothing.
 use mathlib.Core.Path.{_≡_}
 use mathlib.Core.List.{List, [], _∷_}
-use Prim.Native.Nat.{ℕ, _+_, _≤_, _<_}
-use Rattle.rule.specs.Cells.{room, flagAt, lowAt, highAt}
+use Prim.Native.Nat.{ℕ, _+_, _<_}
+use Rattle.rule.specs.Cells.{room}
 use Rattle.rule.specs.Reply.{Reply, accepted, refused}
 use Rattle.cells.specs.Record.{putRecord}
+use Rattle.record_index.specs.Find.{Is, None}
 use Rattle.unique.specs.declared.node.Grown.{Grown}
 use Rattle.unique.specs.declared.node.Found.{Found}
 use Rattle.unique.specs.declared.node.Found.the-variants.{At, Full}
@@ -14,22 +15,6 @@ use Rattle.unique.specs.declared.node.Found.the-variants.{At, Full}
 abbrev pub foundReply : Found → Reply
 foundReply (At m) = accepted (m ∷ [])
 foundReply Full = refused 10 (0 ∷ [])
-
--- record k is these three
-pub record Is (c : List ℕ) (k flag low high : ℕ) : Type 0 where
-  pub flag-is : flagAt c k ≡ flag
-  pub low-is : lowAt c k ≡ low
-  pub high-is : highAt c k ≡ high
-
--- none of the first n records is these three
-abbrev pub None : List ℕ → ℕ → ℕ → ℕ → ℕ → Type 0
-None c n flag low high = (k : ℕ) → k < n → Is c k flag low high → ⊥
-
--- r is a used record that is these three, or `used` where none is. (In sound cells there is one at most.)
-pub record Finds (c : List ℕ) (used flag low high r : ℕ) : Type 0 where
-  pub most : r ≤ used
-  pub there : r < used → Is c r flag low high
-  pub none : r ≡ used → None c used flag low high
 
 abbrev pub grown : ℕ → ℕ → Grown
 grown used m = record { used = used; found = At m }

@@ -1,16 +1,15 @@
-use crate::index::INDEX;
 use crate::node::Found;
 use crate::node::Grown;
 use crate::node::make;
 ghost use Prim.Native.Nat.{_≤_};
 ghost use Rattle.rule.specs.Cells.{mostRecords, room};
-ghost use Rattle.unique.specs.Index.{Indexed};
+ghost use Rattle.record_index.specs.Index.{Indexed};
 ghost use Rattle.unique.specs.Node.{MakesAbove};
 
 // The node that asks a flag above a low node and what was found for the high branch, the last step of a recursion over both. No room there is no room here.
 pub fn make_above(
     cells: &mut [u16],
-    index: &mut [u16; INDEX],
+    index: &mut [u16; record_index::INDEX],
     flag: u16,
     low: u16,
     second: Grown,

@@ -1,13 +1,9 @@
 // The unique table: the node of a flag, a low and a high node, found among the used records or added to them. Build and the store's calls draw every node
 // through it, so that no two records are equal and none has two equal children. An index beside the cells says where to look.
 mod above;
-mod index;
 mod node;
 
 pub use above::make_above;
-pub use index::INDEX;
-pub use index::enter;
-pub use index::find;
 pub use node::Found;
 pub use node::Grown;
 pub use node::make;

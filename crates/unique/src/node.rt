@@ -1,9 +1,6 @@
-use crate::index::INDEX;
-use crate::index::enter;
-use crate::index::find;
 ghost use Prim.Native.Nat.{_≤_};
 ghost use Rattle.rule.specs.Cells.{room};
-ghost use Rattle.unique.specs.Index.{links, Indexed};
+ghost use Rattle.record_index.specs.Index.{links, Indexed};
 ghost use Rattle.unique.specs.Node.{foundReply, MakesNode};
 
 // What was found of a node: its number, or that there is no room for its record.
@@ -21,7 +18,7 @@ pub struct Grown {
 // The node that asks a flag and has these two children, which is the child itself where they are one.
 pub fn make(
     cells: &mut [u16],
-    index: &mut [u16; INDEX],
+    index: &mut [u16; record_index::INDEX],
     used: u16,
     flag: u16,
     low: u16,
@@ -37,7 +34,7 @@ pub fn make(
             found: Found::At(low),
         };
     }
-    let k = find(cells, index, used, flag, low, high);
+    let k = record_index::find(cells, index, used, flag, low, high);
     if k < used {
         return Grown {
             used,
@@ -51,7 +48,7 @@ pub fn make(
         };
     }
     cells::put(cells, used, flag, low, high);
-    enter(cells, index, used);
+    record_index::enter(cells, index, used);
     Grown {
         used: used + 1,
         found: Found::At(used + 2),

@@ -10,7 +10,7 @@ ghost use Rattle.rule.specs.Calls.{Walks, Tabulates};
 pub fn walk(n: u8, order: Order, cells: &[u16], used: u16, node: Node, row: u16) -> Said
     ensures { λ r. ⌜ Walks n (order .places) (now (cells .entry)) used (node .number) row (saidReply r) ⌝ }
 {
-    let mut index = [0u16; unique::INDEX];
+    let mut index = [0u16; record_index::INDEX];
     let refused = checking::records_refusal(n, order, cells, used, &mut index);
     if refused != 0 {
         return Said::Refused(refused);
@@ -35,7 +35,7 @@ pub fn tabulate(n: u8, order: Order, cells: &[u16], used: u16, node: Node, bytes
     if bytes.len() != arguments::row_count(n) {
         return Done::Refused(2);
     }
-    let mut index = [0u16; unique::INDEX];
+    let mut index = [0u16; record_index::INDEX];
     let refused = checking::records_refusal(n, order, cells, used, &mut index);
     if refused != 0 {
         return Done::Refused(refused);

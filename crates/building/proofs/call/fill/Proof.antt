@@ -2,7 +2,7 @@
 -- Assumes nothing.
 use mathlib.Core.Path.{refl}
 use borrow.Author.Needs.{needs}
-use Rattle.unique.proofs.Chain.{index-none}
+use Rattle.record_index.proofs.Chain.{index-none}
 use Rattle.building.proofs.Held.{begin, within-held, end-full, end-found}
 use Rattle.building.proofs.call.fill.Statement.{statement}
 use Rattle.building.proofs.call.fill.Tie as tie

@@ -7,8 +7,8 @@ use native.Mathlib.Omega.{arith}
 use borrow.Author.Needs.{needs}
 use denote.Ref.{now}
 use Rattle.rule.specs.Order.{flags}
-use Rattle.unique.specs.Index.{Indexed}
-use Rattle.unique.proofs.Chain.{index-none}
+use Rattle.record_index.specs.Index.{Indexed}
+use Rattle.record_index.proofs.Chain.{index-none}
 use Rattle.soundness.proofs.Parts.{Fitting, fitting-none, fitting-more, fitting-flags, fitting-not, fitting-all}
 use Rattle.soundness.proofs.records.all_fit.Statement.{statement}
 use Rattle.soundness.proofs.records.all_fit.Tie as tie

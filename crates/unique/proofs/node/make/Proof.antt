@@ -7,7 +7,7 @@ use denote.Ref.{now}
 use Rattle.rule.specs.Cells.{room}
 use Rattle.cells.proofs.Record.{put-length}
 use Rattle.unique.specs.Node.{child, old, new, full}
-use Rattle.unique.proofs.Chain.{index-put}
+use Rattle.record_index.proofs.Chain.{index-put}
 use Rattle.unique.proofs.node.make.Statement.{statement}
 use Rattle.unique.proofs.node.make.Tie as tie
 

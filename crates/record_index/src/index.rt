@@ -3,8 +3,8 @@
 ghost use mathlib.Core.Path.{_≡_};
 ghost use Prim.Native.Nat.{_+_, _≤_, _<_};
 ghost use Rattle.rule.specs.Cells.{room};
-ghost use Rattle.unique.specs.Index.{hash, heads, links, Indexed};
-ghost use Rattle.unique.specs.Node.{Finds};
+ghost use Rattle.record_index.specs.Index.{hash, heads, links, Indexed};
+ghost use Rattle.record_index.specs.Find.{Finds};
 
 // How many hashes there are: some more than records, so that most chains are empty.
 const HEADS: usize = 4096;

@@ -1,4 +1,4 @@
--- `unique::index::find` meets its contract: the chain of the hash passes every record that can be the one looked for.
+-- `record_index::index::find` meets its contract: the chain of the hash passes every record that can be the one looked for.
 -- Assumes nothing.
 use Prim.Native.Nat.{_-_}
 use mathlib.Core.Path.{sym, _∙_}
@@ -6,10 +6,10 @@ use mathlib.Core.Logic.{⊎-elim}
 use native.Mathlib.Omega.{arith}
 use borrow.Author.Needs.{needs}
 use denote.Ref.{now}
-use Rattle.unique.specs.Index.{hashAt}
-use Rattle.unique.proofs.Chain.{last, Searched, searched-first, searched-next, searched-none}
-use Rattle.unique.proofs.index.find.Statement.{statement}
-use Rattle.unique.proofs.index.find.Tie as tie
+use Rattle.record_index.specs.Index.{hashAt}
+use Rattle.record_index.proofs.Chain.{last, Searched, searched-first, searched-next, searched-none}
+use Rattle.record_index.proofs.index.find.Statement.{statement}
+use Rattle.record_index.proofs.index.find.Tie as tie
 
 abbrev Inv-loop : tie.InvT-loop
 Inv-loop cells index used flag low high at₀ at = Searched cells used flag low high at

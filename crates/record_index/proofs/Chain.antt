@@ -17,8 +17,8 @@ use Rattle.rule.proofs.Zeros.{zero-at}
 use Rattle.cells.specs.Record.{putRecord}
 use Rattle.cells.proofs.Record.{put-else}
 use Rattle.theory.proofs.Walks.{flag-kept, low-kept, high-kept}
-use Rattle.unique.specs.Index.{heads, links, hash, hashAt, lastWith, emptyIndex, Indexed}
-use Rattle.unique.specs.Node.{Is, Finds}
+use Rattle.record_index.specs.Index.{heads, links, hash, hashAt, lastWith, emptyIndex, Indexed}
+use Rattle.record_index.specs.Find.{Is, Finds}
 
 -- ---- the last record with a hash
 

@@ -1,10 +1,10 @@
--- `unique::index::enter` meets its contract: a link and a head.
+-- `record_index::index::enter` meets its contract: a link and a head.
 -- Assumes nothing.
 use native.Mathlib.Omega.{arith}
 use borrow.Author.Needs.{needs}
-use Rattle.unique.proofs.Chain.{index-entered}
-use Rattle.unique.proofs.index.enter.Statement.{statement}
-use Rattle.unique.proofs.index.enter.Tie as tie
+use Rattle.record_index.proofs.Chain.{index-entered}
+use Rattle.record_index.proofs.index.enter.Statement.{statement}
+use Rattle.record_index.proofs.index.enter.Tie as tie
 
 returns : tie.Need-returns
 returns c =

@@ -8,7 +8,7 @@ ghost use Prim.Native.Nat.{_≤_};
 ghost use Rattle.rule.specs.Cells.{room};
 ghost use Rattle.rule.specs.Reply.{refused};
 ghost use Rattle.rule.specs.Answers.{madeReply};
-ghost use Rattle.apply.specs.Conclude.{Concludes};
+ghost use Rattle.concluding.specs.Conclude.{Concludes};
 
 // The used records after a call that makes a rule, beside its answer.
 pub struct Outcome {

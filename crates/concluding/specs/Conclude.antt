@@ -8,7 +8,7 @@ use Rattle.rule.specs.Answers.{madeReply}
 use Rattle.cells.specs.Record.{clearFrom}
 use Rattle.unique.specs.declared.node.Found.{Found}
 use Rattle.unique.specs.declared.node.Found.the-variants.{At, Full}
-use Rattle.apply.specs.declared.ending.Outcome.{Outcome}
+use Rattle.concluding.specs.declared.ending.Outcome.{Outcome}
 
 -- the node and the records that were added, or 10 and the cells from record `used` on cleared
 abbrev pub Concludes : Found → List ℕ → ℕ → ℕ → Outcome → List ℕ → Type 0

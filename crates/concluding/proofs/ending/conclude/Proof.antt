@@ -1,9 +1,9 @@
--- `apply::ending::conclude` meets its contract: the node, or the cells cleared.
+-- `concluding::ending::conclude` meets its contract: the node, or the cells cleared.
 -- Assumes nothing.
 use mathlib.Core.Path.{refl}
 use borrow.Author.Needs.{needs}
-use Rattle.apply.proofs.ending.conclude.Statement.{statement}
-use Rattle.apply.proofs.ending.conclude.Tie as tie
+use Rattle.concluding.proofs.ending.conclude.Statement.{statement}
+use Rattle.concluding.proofs.ending.conclude.Tie as tie
 
 returns : tie.Need-returns
 returns c = rw (c .before .found .given .1) (refl, refl, refl)
