@@ -1,10 +1,10 @@
--- `playing::playing::turn` meets its contract: the call is the one that the words code, and its answer is noted.
+-- `playing::turn` meets its contract: the call is the one that the words code, and its answer is noted.
 -- Assumes nothing.
 use native.Mathlib.Omega.{arith}
 use borrow.Author.Needs.{needs}
 use Rattle.playing.proofs.More.{turn-made}
-use Rattle.playing.proofs.playing.turn.Statement.{statement}
-use Rattle.playing.proofs.playing.turn.Tie as tie
+use Rattle.playing.proofs.turn.Statement.{statement}
+use Rattle.playing.proofs.turn.Tie as tie
 
 note-requires : tie.Need-note-requires
 note-requires c κs = omega (arith, c .before .before .before .before .before .before .before .before .before .before .before .before .before .before .pre .1)

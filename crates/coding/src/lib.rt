@@ -1,4 +1,4 @@
-// The words of a call: what is asked, or for open the state that it is given.
+// The words that code one of the store's calls (document 01, "The book beside the store"): what is asked, or for open the state that it is given.
 use history::Making;
 use history::Query;
 use history::Request;
@@ -9,7 +9,7 @@ ghost use mathlib.Core.Path.{_≡_};
 ghost use Prim.Native.Nat.{_+_, _%_, _≤_, _<_};
 ghost use lib.ListN.{length};
 ghost use Rattle.store.specs.State.{stateOf};
-ghost use Rattle.playing.specs.Coded.{callWords, requestBy, requestAt, byteAt, givenAt};
+ghost use Rattle.coding.specs.Coded.{callWords, requestBy, requestAt, byteAt, givenAt};
 
 // The words of one call.
 pub const CALL: usize = 13;

@@ -1,9 +1,9 @@
--- `playing::coding::request_by` meets its contract: each return is the arm of its kind.
+-- `coding::request_by` meets its contract: each return is the arm of its kind.
 -- Assumes nothing.
 use borrow.Author.Needs.{needs}
 use borrow.Author.Tests.{ne-eqb}
-use Rattle.playing.proofs.coding.request_by.Statement.{statement}
-use Rattle.playing.proofs.coding.request_by.Tie as tie
+use Rattle.coding.proofs.request_by.Statement.{statement}
+use Rattle.coding.proofs.request_by.Tie as tie
 
 -- the rest is what is none of the kinds
 returns-8 : tie.Need-returns-8

@@ -1,9 +1,9 @@
--- `playing::coding::request_at` meets its contract: the kind and the arguments are the words at their places.
+-- `coding::request_at` meets its contract: the kind and the arguments are the words at their places.
 -- Assumes nothing.
 use borrow.Author.Needs.{needs}
-use Rattle.playing.specs.Coded.{requestAt}
-use Rattle.playing.proofs.coding.request_at.Statement.{statement}
-use Rattle.playing.proofs.coding.request_at.Tie as tie
+use Rattle.coding.specs.Coded.{requestAt}
+use Rattle.coding.proofs.request_at.Statement.{statement}
+use Rattle.coding.proofs.request_at.Tie as tie
 
 returns : tie.Need-returns
 unfolding requestAt

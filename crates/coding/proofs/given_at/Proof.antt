@@ -1,9 +1,9 @@
--- `playing::coding::given_at` meets its contract: each part is the word at its place.
+-- `coding::given_at` meets its contract: each part is the word at its place.
 -- Assumes nothing.
 use borrow.Author.Needs.{needs}
-use Rattle.playing.specs.Coded.{givenAt}
-use Rattle.playing.proofs.coding.given_at.Statement.{statement}
-use Rattle.playing.proofs.coding.given_at.Tie as tie
+use Rattle.coding.specs.Coded.{givenAt}
+use Rattle.coding.proofs.given_at.Statement.{statement}
+use Rattle.coding.proofs.given_at.Tie as tie
 
 returns : tie.Need-returns
 unfolding givenAt

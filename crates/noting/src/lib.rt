@@ -1,4 +1,4 @@
-// An answer in two words: its number, and the first value that it hands back.
+// The two words that an answer of the store's calls is noted in (document 01, "The book beside the store"): its number, and the first value that it hands back.
 use history::Answer;
 use rule::Done;
 use rule::Made;
@@ -10,7 +10,7 @@ ghost use lib.Seq.{sets};
 ghost use Rattle.rule.specs.Reply.{numberOf};
 ghost use Rattle.rule.specs.Answers.{doneReply, madeReply, saidReply};
 ghost use Rattle.history.specs.Request.{answerReply};
-ghost use Rattle.playing.specs.Noted.{noteWords, firstOf, noteOf};
+ghost use Rattle.noting.specs.Noted.{noteWords, firstOf, noteOf};
 
 // The words of one answer.
 pub const NOTE: usize = 2;

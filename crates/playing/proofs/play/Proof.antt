@@ -1,4 +1,4 @@
--- `playing::playing::play` meets its contract. The loop's invariant: the calls made so far are the first that the words code, they led from the first state to
+-- `playing::play` meets its contract. The loop's invariant: the calls made so far are the first that the words code, they led from the first state to
 -- the one at hand, and their answers are noted. The measure is how many are left. Assumes nothing.
 use mathlib.Core.Path.{_≡_, refl}
 use Prim.Native.Nat.{_≤_, _-_}
@@ -8,8 +8,8 @@ use lib.ListN.{length}
 use Rattle.store.specs.State.{stateOf}
 use Rattle.playing.specs.Played.{Plays, roomFor}
 use Rattle.playing.proofs.More.{plays-none, plays-more}
-use Rattle.playing.proofs.playing.play.Statement.{statement}
-use Rattle.playing.proofs.playing.play.Tie as tie
+use Rattle.playing.proofs.play.Statement.{statement}
+use Rattle.playing.proofs.play.Tie as tie
 
 abbrev Inv-loop : tie.InvT-loop
 Inv-loop words cells₀ bytes₀ answers₀ room store₀ made₀ cells bytes answers store made =
