@@ -1,6 +1,6 @@
 // The words that code one of the store's calls (document 01, "The book beside the store"): what is asked, or for open the state that it is given.
+use asking::Query;
 use history::Making;
-use history::Query;
 use history::Request;
 use rule::Node;
 use rule::Order;

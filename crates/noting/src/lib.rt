@@ -1,5 +1,5 @@
 // The two words that an answer of the store's calls is noted in (document 01, "The book beside the store"): its number, and the first value that it hands back.
-use history::Answer;
+use asking::Answer;
 use rule::Done;
 use rule::Made;
 use rule::Said;
@@ -9,7 +9,7 @@ ghost use lib.ListN.{length};
 ghost use lib.Seq.{sets};
 ghost use Rattle.rule.specs.Reply.{numberOf};
 ghost use Rattle.rule.specs.Answers.{doneReply, madeReply, saidReply};
-ghost use Rattle.history.specs.Request.{answerReply};
+ghost use Rattle.asking.specs.Answer.{answerReply};
 ghost use Rattle.noting.specs.Noted.{noteWords, firstOf, noteOf};
 
 // The words of one answer.

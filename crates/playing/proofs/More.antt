@@ -10,9 +10,10 @@ use Rattle.rule.specs.Reply.{numberOf}
 use Rattle.rule.specs.Calls.{State}
 use Rattle.rule.specs.History.{Call, Meets, Calls}
 use Rattle.store.specs.State.{stateOf}
-use Rattle.history.specs.Request.{askedBy, part, answerReply, callOf, Steps}
+use Rattle.asking.specs.declared.answers.Reached.{Reached}
+use Rattle.asking.specs.Answer.{answerReply}
+use Rattle.history.specs.Request.{askedBy, part, callOf, Steps}
 use Rattle.history.specs.declared.requests.Request.{Request}
-use Rattle.history.specs.declared.stepping.Reached.{Reached}
 use Rattle.coding.specs.Coded.{callWords, requestAt, givenAt, askedAt}
 use Rattle.noting.specs.Noted.{noteWords, firstOf, noteOf, notes}
 use Rattle.playing.specs.Played.{Coded, bytesAfter, Turns, CodedFrom, Plays}

@@ -1,10 +1,10 @@
--- `history::stepping::tabulated` meets its contract: all of the bytes are lent, or their first part.
+-- `asking::queries::tabulated` meets its contract: all of the bytes are lent, or their first part.
 -- Assumes nothing.
 use borrow.Author.Needs.{needs}
 use denote.Ref.{now}
-use Rattle.history.proofs.Part.{all-lent, first-lent}
-use Rattle.history.proofs.stepping.tabulated.Statement.{statement}
-use Rattle.history.proofs.stepping.tabulated.Tie as tie
+use Rattle.asking.proofs.Part.{all-lent, first-lent}
+use Rattle.asking.proofs.queries.tabulated.Statement.{statement}
+use Rattle.asking.proofs.queries.tabulated.Tie as tie
 
 returns : tie.Need-returns
 returns c =

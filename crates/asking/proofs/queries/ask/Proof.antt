@@ -1,9 +1,9 @@
--- `history::stepping::ask` meets its contract: in each arm the query is that of the arm, and the call's own contract is what is asked.
+-- `asking::queries::ask` meets its contract: in each arm the query is that of the arm, and the call's own contract is what is asked.
 -- Assumes nothing.
 use mathlib.Core.Path.{refl}
 use borrow.Author.Needs.{needs}
-use Rattle.history.proofs.stepping.ask.Statement.{statement}
-use Rattle.history.proofs.stepping.ask.Tie as tie
+use Rattle.asking.proofs.queries.ask.Statement.{statement}
+use Rattle.asking.proofs.queries.ask.Tie as tie
 
 returns : tie.Need-returns
 returns c = rw (c .before .before .before .before .before .before .query .given .1, c .done .ensures .1, c .done .ensures .0) (record { met = c .before .before .before .tabulated .ensures .0; kind = refl; behind = c .before .before .before .tabulated .ensures .1 })
