@@ -3,8 +3,5 @@ mod requests;
 mod stepping;
 
 pub use requests::Making;
-pub use requests::Query;
 pub use requests::Request;
-pub use stepping::Answer;
-pub use stepping::Reached;
 pub use stepping::step;

@@ -1,3 +1,4 @@
+use asking::Query;
 use rule::Node;
 
 // A call that makes a rule with records, with its arguments.
@@ -18,13 +19,6 @@ pub enum Making {
         flag: u16,
         value: u16,
     },
-}
-
-// A call that makes no rule, with its arguments.
-pub enum Query {
-    // Into so many of the lent bytes, from the first on.
-    Tabulate { rule: Node, length: u16 },
-    Walk { rule: Node, row: u16 },
 }
 
 // One of the eight calls with its arguments. (The state that open is given stands beside it: an enum holds no array.)

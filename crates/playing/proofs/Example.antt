@@ -9,8 +9,8 @@ use lib.ListN.{length, replicate}
 use Rattle.rule.specs.Bits.{bit, from}
 use Rattle.rule.specs.Tests.{each}
 use Rattle.rule.specs.History.{lookup, inBook}
-use Rattle.playing.specs.Coded.{callWords, requestAt, givenAt}
-use Rattle.playing.specs.Noted.{bookPlayed}
+use Rattle.coding.specs.Coded.{callWords, requestAt, givenAt}
+use Rattle.playing.specs.Book.{bookPlayed}
 
 -- a call's words, zeros behind what it asks
 pub coded : List ℕ → List ℕ

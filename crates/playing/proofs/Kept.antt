@@ -19,13 +19,13 @@ use borrow.Fn.Kinds.{Dens, resT, endedOf}
 use Rattle.store.specs.State.{stateOf}
 use Rattle.history.specs.Request.{askedBy}
 use Rattle.history.specs.declared.requests.Request.{Request}
-use Rattle.playing.specs.Coded.{givenAt}
-use Rattle.playing.specs.Noted.{emptyBook}
+use Rattle.coding.specs.Coded.{givenAt}
 use Rattle.playing.specs.Played.{CodedFrom}
+use Rattle.playing.proofs.play.Reads as play
+use Rattle.playing.proofs.play.Kinds as kinds
+use Rattle.playing.specs.Book.{emptyBook}
 use Rattle.playing.specs.Kept.{BeginsFit, RunKept, PlayKept}
 use Rattle.playing.proofs.Read.{plays-fed}
-use Rattle.playing.proofs.playing.play.Reads as play
-use Rattle.playing.proofs.playing.play.Kinds as kinds
 
 -- an open with a fit state is accepted
 opens : (s : State) (c : List ℕ) (q : Asked) (given : State) (x : Call) → q ≡ open-call given → MeetsBy q s c x

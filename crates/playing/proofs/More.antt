@@ -3,19 +3,19 @@
 use mathlib.Core.Path.{_≡_, refl, sym, ap, subst, _∙_}
 use mathlib.Core.List.{List, [], _∷_, _++_}
 use Prim.Native.Nat.{ℕ, zero, suc, _+_, _*_, _≤_}
-use native.Mathlib.Numerals.{add-one}
 use native.Mathlib.Omega.{arith}
-use lib.ListN.{length, take, drop, set, length-append, length-take, length-drop, take-append-drop}
+use lib.ListN.{length, take, drop, length-append, length-take, length-drop, take-append-drop}
 use lib.Seq.{take-at, drop-at, drop-drop, sets, sets-eq}
 use Rattle.rule.specs.Reply.{numberOf}
 use Rattle.rule.specs.Calls.{State}
 use Rattle.rule.specs.History.{Call, Meets, Calls}
 use Rattle.store.specs.State.{stateOf}
-use Rattle.history.specs.Request.{askedBy, part, answerReply, callOf, Steps}
+use Rattle.asking.specs.declared.answers.Reached.{Reached}
+use Rattle.asking.specs.Answer.{answerReply}
+use Rattle.history.specs.Request.{askedBy, part, callOf, Steps}
 use Rattle.history.specs.declared.requests.Request.{Request}
-use Rattle.history.specs.declared.stepping.Reached.{Reached}
-use Rattle.playing.specs.Coded.{callWords, requestAt, givenAt, askedAt}
-use Rattle.playing.specs.Noted.{noteWords, firstOf, noteOf, notes}
+use Rattle.coding.specs.Coded.{callWords, requestAt, givenAt, askedAt}
+use Rattle.noting.specs.Noted.{noteWords, firstOf, noteOf, notes}
 use Rattle.playing.specs.Played.{Coded, bytesAfter, Turns, CodedFrom, Plays}
 
 calls-more : (s : State) (c : List ℕ) (xs : List Call) (s′ : State) (d : List ℕ) (x : Call) → Calls s c xs s′ d → Meets s′ d x
@@ -42,11 +42,7 @@ length-notes : (xs : List Call) → length (notes xs) ≡ length xs * 2
 length-notes [] = refl
 length-notes (x ∷ xs) = omega (arith, length-notes xs)
 
--- the two of one call, written one behind the other
-pub two-written : (a : List ℕ) (to : ℕ) {n v n′ v′ : ℕ} → n ≡ n′ → v ≡ v′ → set (set a to n) (to + 1) v ≡ sets a to (n′ ∷ v′ ∷ [])
-two-written a to e f = rw (add-one, e, f)
-
--- two more of them, behind those that are written
+-- two more, behind those that are written
 written-more : (ns a : List ℕ) (m u v : ℕ) → length ns ≡ m → m + 2 ≤ length a
     → sets (ns ++ drop m a) m (u ∷ v ∷ []) ≡ (ns ++ (u ∷ v ∷ [])) ++ drop (m + 2) a
 written-more ns a m u v l h =

@@ -12,9 +12,10 @@ use Rattle.rule.specs.Refusals.{refusal, openRows, constantRows, makingRows, ta
 use Rattle.rule.specs.Reply.{Reply, reply, numberOf}
 use Rattle.rule.specs.Calls.{State}
 use Rattle.rule.specs.History.{Asked, open-call, constant-call, making-call, query-call, Call, MeetsBy, Calls, Fed, fedOf, feed}
-use Rattle.playing.specs.Coded.{askedAt}
-use Rattle.playing.specs.Noted.{firstOf, notes, replyBy, fedAt, fedFrom, fedPlayed}
+use Rattle.coding.specs.Coded.{askedAt}
+use Rattle.noting.specs.Noted.{firstOf, notes, replyBy}
 use Rattle.playing.specs.Played.{CodedFrom, Plays}
+use Rattle.playing.specs.Book.{fedAt, fedFrom, fedPlayed}
 
 -- ---- one answer
 

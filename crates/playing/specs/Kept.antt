@@ -8,9 +8,9 @@ use Rattle.rule.specs.Calls.{State}
 use Rattle.rule.specs.History.{Call, feed, BeginsOpen}
 use Rattle.rule.specs.Demands.{AfterList}
 use Rattle.history.specs.declared.requests.Request.the-variants as the-request
-use Rattle.playing.specs.Coded.{requestAt, givenAt}
-use Rattle.playing.specs.Noted.{fedPlayed, emptyBook}
+use Rattle.coding.specs.Coded.{requestAt, givenAt}
 use Rattle.playing.specs.Played.{Plays}
+use Rattle.playing.specs.Book.{fedPlayed, emptyBook}
 
 -- the first call that the words code is an open with a fit state: it meets none of the refusals of open with cells c
 pub record BeginsFit (w c : List ℕ) : Type 0 where

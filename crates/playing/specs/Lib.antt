@@ -1,4 +1,3 @@
-pub mod Coded
-pub mod Noted
 pub mod Played
+pub mod Book
 pub mod Kept

@@ -7,8 +7,8 @@ use lib.ListN.{length, take, drop}
 use lib.Seq.{sets}
 use Rattle.rule.specs.Calls.{State}
 use Rattle.rule.specs.History.{Call, Meets, Calls}
-use Rattle.playing.specs.Coded.{callWords, askedAt, partAt}
-use Rattle.playing.specs.Noted.{noteWords, noteOf, notes}
+use Rattle.coding.specs.Coded.{callWords, askedAt, partAt}
+use Rattle.noting.specs.Noted.{noteWords, noteOf, notes}
 
 -- ---- one call
 

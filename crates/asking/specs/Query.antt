@@ -1,0 +1,35 @@
+-- A query, and what it leaves, as the definitions of crate rule have them.
+-- Assumes nothing.
+use mathlib.Core.Path.{_≡_}
+use mathlib.Core.List.{List}
+use Prim.Native.Nat.{ℕ}
+use lib.ListN.{take, drop}
+use Rattle.rule.specs.Results.{Query as Asks, tabulating, walking}
+use Rattle.rule.specs.Calls.{State, Ask}
+use Rattle.store.specs.State.{stateOf}
+use Rattle.asking.specs.declared.answers.Reached.{Reached}
+use Rattle.asking.specs.declared.queries.Query.{Query}
+use Rattle.asking.specs.declared.queries.Query.the-variants as the-query
+use Rattle.asking.specs.Answer.{answerReply, Kind, done-kind, said-kind, answerKind}
+
+-- a call that makes no rule, by its name in Results.antt
+abbrev pub queryOf : Query → Asks
+queryOf (the-query.Tabulate m length) = tabulating (m .number)
+queryOf (the-query.Walk m row) = walking (m .number) row
+
+-- how many of the bytes, from the first on, it is lent (all of them, where there are fewer): tabulate as many as it says
+abbrev pub queryPart : Query → ℕ
+queryPart (the-query.Tabulate m length) = length
+queryPart (the-query.Walk m row) = 0
+
+-- the kind of answer that belongs to it
+abbrev pub queryKind : Query → Kind
+queryKind (the-query.Tabulate m length) = done-kind
+queryKind (the-query.Walk m row) = said-kind
+
+-- one query, from state s, cells c and bytes b: it met its contract, its answer is of the kind that belongs to it, and bytes behind those that it was lent are
+-- as found
+pub record Answers (q : Query) (s : State) (c b : List ℕ) (r : Reached) (b′ : List ℕ) : Type 0 where
+  pub met : Ask s c (queryOf q) (take (queryPart q) b) (answerReply (r .answer)) (stateOf (r .store)) (take (queryPart q) b′)
+  pub kind : answerKind (r .answer) ≡ queryKind q
+  pub behind : drop (queryPart q) b′ ≡ drop (queryPart q) b

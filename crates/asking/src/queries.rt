@@ -1,0 +1,41 @@
+use crate::answers::Reached;
+use crate::answers::done;
+use crate::answers::said;
+use rule::Node;
+use store::Passed;
+use store::Store;
+ghost use mathlib.Core.Path.{_≡_};
+ghost use lib.ListN.{take, drop};
+ghost use Rattle.rule.specs.Answers.{doneReply};
+ghost use Rattle.rule.specs.Calls.{Tabulate};
+ghost use Rattle.store.specs.State.{stateOf};
+ghost use Rattle.asking.specs.Query.{Answers};
+
+// A call that makes no rule, with its arguments.
+pub enum Query {
+    // Into so many of the lent bytes, from the first on.
+    Tabulate { rule: Node, length: u16 },
+    Walk { rule: Node, row: u16 },
+}
+
+// Tabulate into so many of the lent bytes, from the first on: into all, where there are fewer.
+fn tabulated(store: Store, cells: &[u16], rule: Node, length: u16, bytes: &mut [u8]) -> Passed
+    ensures { λ r. ⌜ Tabulate (stateOf store) (now (cells .entry)) (rule .number) (take length (now (bytes .entry))) (doneReply (r .answer)) (stateOf (r .store)) (take length (now (bytes .exit))) ⌝ }
+    ensures { λ r. ⌜ drop length (now (bytes .exit)) ≡ drop length (now (bytes .entry)) ⌝ }
+{
+    let end = length as usize;
+    if bytes.len() <= end {
+        return store.tabulate(cells, rule, bytes);
+    }
+    store.tabulate(cells, rule, &mut bytes[0..end])
+}
+
+// Make one call that makes no rule.
+pub fn ask(store: Store, cells: &[u16], query: Query, bytes: &mut [u8]) -> Reached
+    ensures { λ r. ⌜ Answers query (stateOf store) (now (cells .entry)) (now (bytes .entry)) r (now (bytes .exit)) ⌝ }
+{
+    match query {
+        Query::Tabulate { rule, length } => done(tabulated(store, cells, rule, length, bytes)),
+        Query::Walk { rule, row } => said(store.walk(cells, rule, row)),
+    }
+}

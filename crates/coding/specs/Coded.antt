@@ -1,0 +1,60 @@
+-- A list of calls as words code it: which call, and its arguments, or for open the state that it is given.
+-- Assumes nothing.
+use mathlib.Core.Bool.{cond}
+use mathlib.Core.List.{List, [], _∷_}
+use Prim.Native.Nat.{ℕ, _+_, _*_, _%_}
+use lib.Dec.{eqb}
+use lib.ListN.{getD}
+use Rattle.rule.specs.Calls.{State}
+use Rattle.rule.specs.History.{Asked}
+use Rattle.rule.specs.declared.node.Node.{Node}
+use Rattle.asking.specs.declared.queries.Query.the-variants as the-query
+use Rattle.history.specs.Request.{askedBy, part}
+use Rattle.history.specs.declared.requests.Making.the-variants as the-making
+use Rattle.history.specs.declared.requests.Request.{Request}
+use Rattle.history.specs.declared.requests.Request.the-variants as the-request
+
+-- the words of one call
+abbrev pub callWords : ℕ
+callWords = 13
+
+abbrev pub node : ℕ → Node
+node m = record { number = m }
+
+-- the call of a kind, 0 to 6 and any other, with its arguments; of the first argument a join takes the last eight bits. The second of tabulate is how many of
+-- the lent bytes it is given, or all where there are fewer.
+abbrev pub requestBy : ℕ → ℕ → ℕ → ℕ → Request
+requestBy kind x y z =
+    cond (eqb kind 0) the-request.Open
+    (cond (eqb kind 1) (the-request.Constant x)
+    (cond (eqb kind 2) (the-request.Make (the-making.Flag x))
+    (cond (eqb kind 3) (the-request.Make (the-making.Join (x % 256) (node y) (node z)))
+    (cond (eqb kind 4) (the-request.Make (the-making.Choose (node x) (node y) (node z)))
+    (cond (eqb kind 5) (the-request.Make (the-making.Fix (node x) y z))
+    (cond (eqb kind 6) (the-request.Ask (the-query.Tabulate (node x) y))
+    (the-request.Ask (the-query.Walk (node x) y))))))))
+
+-- the call that is coded from a word on
+unfoldable pub requestAt : List ℕ → ℕ → Request
+requestAt w at = requestBy (getD w at 0) (getD w (at + 1) 0) (getD w (at + 2) 0) (getD w (at + 3) 0)
+
+abbrev pub byteAt : List ℕ → ℕ → ℕ
+byteAt w at = getD w at 0 % 256
+
+-- the state that open is given, where it is coded from a word on: n, used, and the ten places of the order
+unfoldable pub givenAt : List ℕ → ℕ → State
+givenAt w at =
+    record {
+      n = byteAt w (at + 1);
+      places = byteAt w (at + 3) ∷ byteAt w (at + 4) ∷ byteAt w (at + 5) ∷ byteAt w (at + 6) ∷ byteAt w (at + 7) ∷ byteAt w (at + 8) ∷ byteAt w (at + 9)
+          ∷ byteAt w (at + 10) ∷ byteAt w (at + 11) ∷ byteAt w (at + 12) ∷ [];
+      used = getD w (at + 2) 0;
+    }
+
+-- what call k of the list asks, counted from 0
+abbrev pub askedAt : List ℕ → ℕ → Asked
+askedAt w k = askedBy (requestAt w (k * callWords)) (givenAt w (k * callWords))
+
+-- how many of the bytes, from the first on, it is lent
+abbrev pub partAt : List ℕ → ℕ → ℕ
+partAt w k = part (requestAt w (k * callWords))

@@ -1,0 +1,97 @@
+// The words that code one of the store's calls (document 01, "The book beside the store"): what is asked, or for open the state that it is given.
+use asking::Query;
+use history::Making;
+use history::Request;
+use rule::Node;
+use rule::Order;
+use store::Store;
+ghost use mathlib.Core.Path.{_≡_};
+ghost use Prim.Native.Nat.{_+_, _%_, _≤_, _<_};
+ghost use lib.ListN.{length};
+ghost use Rattle.store.specs.State.{stateOf};
+ghost use Rattle.coding.specs.Coded.{callWords, requestBy, requestAt, byteAt, givenAt};
+
+// The words of one call.
+pub const CALL: usize = 13;
+
+// The last eight bits of a word.
+fn byte(word: u16) -> u8
+    ensures { λ r. ⌜ r ≡ word % 256 ⌝ }
+{
+    (word % 256) as u8
+}
+
+// The call of a kind, with its arguments.
+fn request_by(kind: u16, x: u16, y: u16, z: u16) -> Request
+    ensures { λ r. ⌜ r ≡ requestBy kind x y z ⌝ }
+{
+    let code = byte(x);
+    match kind {
+        0 => Request::Open,
+        1 => Request::Constant(x),
+        2 => Request::Make(Making::Flag(x)),
+        3 => Request::Make(Making::Join {
+            code,
+            first: Node { number: y },
+            second: Node { number: z },
+        }),
+        4 => Request::Make(Making::Choose {
+            first: Node { number: x },
+            second: Node { number: y },
+            third: Node { number: z },
+        }),
+        5 => Request::Make(Making::Fix {
+            rule: Node { number: x },
+            flag: y,
+            value: z,
+        }),
+        6 => Request::Ask(Query::Tabulate {
+            rule: Node { number: x },
+            length: y,
+        }),
+        _ => Request::Ask(Query::Walk {
+            rule: Node { number: x },
+            row: y,
+        }),
+    }
+}
+
+// The call that is coded from a word on.
+pub fn request_at(words: &[u16], at: usize) -> Request
+    requires { ⌜ at + callWords ≤ length (now words) ⌝ }
+    ensures { λ r. ⌜ r ≡ requestAt (now (words .entry)) at ⌝ }
+{
+    request_by(words[at], words[at + 1], words[at + 2], words[at + 3])
+}
+
+// The last eight bits of the word at a place.
+fn byte_at(words: &[u16], at: usize) -> u8
+    requires { ⌜ at < length (now words) ⌝ }
+    ensures { λ r. ⌜ r ≡ byteAt (now (words .entry)) at ⌝ }
+{
+    byte(words[at])
+}
+
+// The state that open is given, from a word on.
+pub fn given_at(words: &[u16], at: usize) -> Store
+    requires { ⌜ at + callWords ≤ length (now words) ⌝ }
+    ensures { λ r. ⌜ stateOf r ≡ givenAt (now (words .entry)) at ⌝ }
+{
+    let places = [
+        byte_at(words, at + 3),
+        byte_at(words, at + 4),
+        byte_at(words, at + 5),
+        byte_at(words, at + 6),
+        byte_at(words, at + 7),
+        byte_at(words, at + 8),
+        byte_at(words, at + 9),
+        byte_at(words, at + 10),
+        byte_at(words, at + 11),
+        byte_at(words, at + 12),
+    ];
+    Store {
+        n: byte_at(words, at + 1),
+        order: Order { places },
+        used: words[at + 2],
+    }
+}
