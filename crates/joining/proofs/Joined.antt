@@ -22,9 +22,9 @@ use Rattle.unique.proofs.Branches.{Split}
 use Rattle.apply.specs.Step.{earlier}
 use Rattle.apply.specs.Grow.{Ready, From, Comes}
 use Rattle.apply.proofs.Down.{lev, levOf, ord, asks, ends, end-level, node-rows, branch-from, branch-table, earlier-is, later-from, later-table, there}
-use Rattle.joining.specs.Terminal.{terminal}
-use Rattle.joining.specs.declared.terminal.Terminal.the-variants.{Node, Down}
-use Rattle.joining.proofs.Terminals.{terminal-value, terminal-is, down-not}
+use Rattle.terminals.specs.Terminal.{terminal}
+use Rattle.terminals.specs.declared.terminal.Terminal.the-variants.{Node, Down}
+use Rattle.terminals.proofs.Terminals.{terminal-value, terminal-is, down-not}
 
 module _ {l : Levels} {c index : List ℕ} {used at f g : ℕ} (r : Ready l c used index) (x : From l c used at f) (y : From l c used at g) where
   -- the earlier of the two

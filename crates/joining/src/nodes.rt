@@ -1,8 +1,8 @@
-use crate::terminal::Terminal;
-use crate::terminal::terminal_case;
 use apply::both_branches;
 use apply::earlier;
 use levels::Levels;
+use terminals::Terminal;
+use terminals::terminal_case;
 use unique::Found;
 use unique::Grown;
 ghost use Prim.Native.Nat.{_≤_};

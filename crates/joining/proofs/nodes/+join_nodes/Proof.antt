@@ -11,7 +11,7 @@ use Rattle.joining.proofs.Joined.{terminal-join, is-record, top, top-fi
 use Rattle.joining.proofs.nodes.join_nodes.Reads as join-nodes
 use Rattle.joining.proofs.nodes.join_nodes.Kinds as join-nodes-kinds
 use Rattle.joining.proofs.nodes.+join_nodes.Lts-join_nodes as join-nodes-lts
-use Rattle.joining.proofs.terminal.terminal_case.Reads as terminal-case-reads
+use Rattle.terminals.proofs.terminal_case.Reads as terminal-case-reads
 use Rattle.apply.proofs.both_branches.Reads as both-branches-reads
 use Rattle.apply.proofs.earlier.Reads as earlier-reads
 use Rattle.levels.proofs.level.Levels.level.Reads as level-reads

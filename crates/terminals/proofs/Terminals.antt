@@ -8,10 +8,9 @@ use native.Mathlib.Omega.{arith}
 use borrow.Author.Tests.{lt-ltb, le-ltb, eq-eqb, ne-eqb}
 use lib.Dec.{eqb}
 use Rattle.rule.specs.Results.{digit}
-use Rattle.theory.proofs.Tests.{cond-same}
-use Rattle.joining.specs.Terminal.{byDigits, terminal}
-use Rattle.joining.specs.declared.terminal.Terminal.{Terminal}
-use Rattle.joining.specs.declared.terminal.Terminal.the-variants.{Node, Down}
+use Rattle.terminals.specs.Terminal.{byDigits, terminal}
+use Rattle.terminals.specs.declared.terminal.Terminal.{Terminal}
+use Rattle.terminals.specs.declared.terminal.Terminal.the-variants.{Node, Down}
 
 -- what holds at 0 and 1 holds below 2
 two : (P : ℕ → Type 0) → P 0 → P 1 → (x : ℕ) → x < 2 → P x
@@ -35,8 +34,8 @@ module _ (value : ℕ → ℕ) (no-is : value 0 ≡ 0) (yes-is : value 1 ≡ 1) 
 
   picked : (a b x : ℕ) {m p : ℕ} → a < 2 → b < 2 → x < 2 → value m ≡ x → Gives p (byDigits a b m) → value p ≡ cond (eqb x 0) a b
   unfolding byDigits
-  picked zero zero x h i j q e = ap value (sym e) ∙ no-is ∙ sym (cond-same (eqb x 0) 0)
-  picked (suc zero) (suc zero) x h i j q e = ap value (sym e) ∙ yes-is ∙ sym (cond-same (eqb x 0) 1)
+  picked zero zero x {m} {p} h i j q e = let r = ap value (sym e) ∙ no-is in two (λ (y : ℕ). value p ≡ cond (eqb y 0) 0 0) r r x j
+  picked (suc zero) (suc zero) x {m} {p} h i j q e = let r = ap value (sym e) ∙ yes-is in two (λ (y : ℕ). value p ≡ cond (eqb y 0) 1 1) r r x j
   picked zero (suc zero) zero h i j q e = ap value (sym e) ∙ q
   picked zero (suc zero) (suc zero) h i j q e = ap value (sym e) ∙ q
   picked (suc zero) zero x h i j q e = absurd e

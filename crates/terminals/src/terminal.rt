@@ -4,7 +4,7 @@ use rule::Node;
 ghost use mathlib.Core.Path.{_≡_};
 ghost use Prim.Native.Nat.{_≤_, _<_};
 ghost use Rattle.rule.specs.Results.{digit};
-ghost use Rattle.joining.specs.Terminal.{byDigits, terminal};
+ghost use Rattle.terminals.specs.Terminal.{byDigits, terminal};
 
 // The node of two rules joined, or that one must go down for it.
 pub enum Terminal {

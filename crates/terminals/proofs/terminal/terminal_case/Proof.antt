@@ -1,10 +1,10 @@
--- `joining::terminal::terminal_case` meets its contract: each way rewrites with the tests that led to it and the digits that it asked for.
+-- `terminals::terminal::terminal_case` meets its contract: each way rewrites with the tests that led to it and the digits that it asked for.
 -- Assumes nothing.
 use borrow.Author.Needs.{needs}
 use borrow.Author.Tests.{lt-ltb, le-ltb, eq-eqb, ne-eqb}
-use Rattle.joining.specs.Terminal.{terminal}
-use Rattle.joining.proofs.terminal.terminal_case.Statement.{statement}
-use Rattle.joining.proofs.terminal.terminal_case.Tie as tie
+use Rattle.terminals.specs.Terminal.{terminal}
+use Rattle.terminals.proofs.terminal.terminal_case.Statement.{statement}
+use Rattle.terminals.proofs.terminal.terminal_case.Tie as tie
 
 returns : tie.Need-returns
 unfolding terminal

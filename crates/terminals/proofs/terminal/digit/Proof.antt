@@ -1,9 +1,9 @@
--- `joining::terminal::digit` meets its contract: no code up to 15 is refused.
+-- `terminals::terminal::digit` meets its contract: no code up to 15 is refused.
 -- Assumes nothing.
 use borrow.Author.Needs.{needs}
-use Rattle.joining.proofs.Digits.{digit-node, digit-refused}
-use Rattle.joining.proofs.terminal.digit.Statement.{statement}
-use Rattle.joining.proofs.terminal.digit.Tie as tie
+use Rattle.terminals.proofs.Digits.{digit-node, digit-refused}
+use Rattle.terminals.proofs.terminal.digit.Statement.{statement}
+use Rattle.terminals.proofs.terminal.digit.Tie as tie
 
 returns : tie.Need-returns
 returns c =

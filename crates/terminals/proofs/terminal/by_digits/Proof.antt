@@ -1,9 +1,9 @@
--- `joining::terminal::by_digits` meets its contract: each way rewrites with the tests that led to it.
+-- `terminals::terminal::by_digits` meets its contract: each way rewrites with the tests that led to it.
 -- Assumes nothing.
 use borrow.Author.Tests.{lt-ltb, le-ltb, eq-eqb, ne-eqb}
-use Rattle.joining.specs.Terminal.{byDigits}
-use Rattle.joining.proofs.terminal.by_digits.Statement.{statement}
-use Rattle.joining.proofs.terminal.by_digits.Tie as tie
+use Rattle.terminals.specs.Terminal.{byDigits}
+use Rattle.terminals.proofs.terminal.by_digits.Statement.{statement}
+use Rattle.terminals.proofs.terminal.by_digits.Tie as tie
 
 returns : tie.Need-returns
 unfolding byDigits

@@ -5,8 +5,8 @@ use Prim.Native.Nat.{ℕ}
 use lib.Dec.{eqb, ltb}
 use Rattle.rule.specs.Cells.{isEnd}
 use Rattle.rule.specs.Results.{digit}
-use Rattle.joining.specs.declared.terminal.Terminal.{Terminal}
-use Rattle.joining.specs.declared.terminal.Terminal.the-variants.{Node, Down}
+use Rattle.terminals.specs.declared.terminal.Terminal.{Terminal}
+use Rattle.terminals.specs.declared.terminal.Terminal.the-variants.{Node, Down}
 
 -- what a node's rule becomes where a digit stands for its no and one for its yes: for 1 and 0 its opposite, an end node where they are one, else itself
 unfoldable pub byDigits : ℕ → ℕ → ℕ → Terminal
