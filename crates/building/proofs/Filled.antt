@@ -27,7 +27,7 @@ use Rattle.unique.specs.declared.node.Found.the-variants.{Full}
 use Rattle.unique.specs.Node.{grown}
 use Rattle.unique.specs.Search.{Grew}
 use Rattle.unique.proofs.Settled.{unsettled}
-use Rattle.building.specs.Draw.{Drawing}
+use Rattle.drawing.specs.Draw.{Drawing}
 use Rattle.building.specs.Fill.{Fits, Filled}
 
 -- what drawing is given at the root

@@ -16,7 +16,7 @@ use Rattle.unique.specs.declared.node.Grown.{Grown}
 use Rattle.unique.specs.declared.node.Found.{Found}
 use Rattle.unique.specs.declared.node.Found.the-variants.{At, Full}
 use Rattle.unique.specs.Search.{FoundAs, Grew}
-use Rattle.building.specs.Draw.{Drawing, Draw}
+use Rattle.drawing.specs.Draw.{Drawing, Draw}
 use Rattle.building.specs.Fill.{Fits, Filled}
 use Rattle.building.proofs.Filled.{start, filled, exceeds}
 

@@ -1,4 +1,3 @@
-pub mod Branches
 pub mod Filled
 pub mod Held
 pub mod Answer

@@ -1,4 +1,4 @@
-use crate::tree::draw;
+use drawing::draw;
 use rule::Drawn;
 use rule::Node;
 use rule::Order;

@@ -1,6 +1,4 @@
-// Build: the reduced ordered diagram of a table under an order (document 01, "Tables, orders, nodes"). The decision tree is drawn from its leaves up, and each
-// node goes through the unique table, so that neither collapsing step of document 001 is left to apply.
+// Build: the reduced ordered diagram of a table under an order (document 01, "Tables, orders, nodes"), drawn aside and copied where there is room.
 mod call;
-mod tree;
 
 pub use call::build;

@@ -31,10 +31,10 @@ use Rattle.cells.specs.Record.{putRecord}
 use Rattle.record_index.specs.Find.{Is, None}
 use Rattle.unique.specs.Node.{foundReply, grown, MakesNode, child, old, new, full, above, none}
 use Rattle.unique.specs.Search.{Grew}
-use Rattle.building.specs.Draw.{Drawing, Draw}
+use Rattle.drawing.specs.Draw.{Drawing, Draw}
 use Rattle.building.specs.Fill.{Fits}
 use Rattle.unique.proofs.Branches.{no-room-low, both-branches}
-use Rattle.building.proofs.Branches.{leaf, split, branch-rule, first, second}
+use Rattle.drawing.proofs.Branches.{leaf, split, branch-rule, first, second}
 use Rattle.building.proofs.Filled.{start, filled, exceeds}
 
 -- ---- how many nodes there are

@@ -27,7 +27,7 @@ use Rattle.theory.proofs.Growth.{grows-none}
 use Rattle.unique.specs.declared.node.Grown.{Grown}
 use Rattle.unique.specs.Node.{grown}
 use Rattle.unique.proofs.Branches.{Split}
-use Rattle.building.specs.Draw.{Drawing, Draw}
+use Rattle.drawing.specs.Draw.{Drawing, Draw}
 
 module _ {n at row used : ℕ} {t order c : List ℕ} (g : Drawing n t order at row c used) where
   ord : Order n (flags n order)

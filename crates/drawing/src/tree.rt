@@ -5,7 +5,7 @@ use unique::Grown;
 ghost use mathlib.Core.Path.{_≡_};
 ghost use Prim.Native.Nat.{_<_};
 ghost use Rattle.record_index.specs.Index.{Indexed};
-ghost use Rattle.building.specs.Draw.{Drawing, Draw};
+ghost use Rattle.drawing.specs.Draw.{Drawing, Draw};
 
 // The end node that gives the answer.
 fn end_node(answer: u8) -> u16

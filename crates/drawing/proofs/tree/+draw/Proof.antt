@@ -1,4 +1,4 @@
--- `building::tree::draw` meets its contract: the measure is the number of flags that are left, and each step is one of Branches.antt.
+-- `drawing::tree::draw` meets its contract: the measure is the number of flags that are left, and each step is one of Branches.antt.
 -- Assumes nothing.
 use Prim.Native.Nat.{ℕ, _-_, _<_}
 use native.Mathlib.Omega.{arith}
@@ -7,16 +7,16 @@ use borrow.Fn.Kinds.{In}
 use borrow.Fn.PlainCycle.{Measures, is, falls, and}
 use lib.Pow.{pow-mono}
 use Rattle.theory.proofs.Cofactor.{row-lt}
-use Rattle.building.proofs.Branches.{leaf, flag-lt, split, branch-rule, first, second}
+use Rattle.drawing.proofs.Branches.{leaf, flag-lt, split, branch-rule, first, second}
 use Rattle.unique.proofs.Branches.{no-room-low, both-branches}
-use Rattle.building.proofs.tree.draw.Reads as draw
-use Rattle.building.proofs.tree.draw.Kinds as draw-kinds
-use Rattle.building.proofs.tree.+draw.Lts-draw as draw-lts
-use Rattle.building.proofs.tree.end_node.Reads as end-node-reads
+use Rattle.drawing.proofs.tree.draw.Reads as draw
+use Rattle.drawing.proofs.tree.draw.Kinds as draw-kinds
+use Rattle.drawing.proofs.tree.+draw.Lts-draw as draw-lts
+use Rattle.drawing.proofs.tree.end_node.Reads as end-node-reads
 use Rattle.bits.proofs.set_bit.Reads as set-bit-reads
 use Rattle.unique.proofs.make_above.Reads as make-above-reads
-use Rattle.building.proofs.tree.+draw.{statement}
-use Rattle.building.proofs.tree.+draw.Tie.{close}
+use Rattle.drawing.proofs.tree.+draw.{statement}
+use Rattle.drawing.proofs.tree.+draw.Tie.{close}
 
 abbrev μ-draw : Measures 3 draw-kinds.ps ℕ
 μ-draw κs a = a .0 - a .1 .1 .1 .0
