@@ -1,6 +1,7 @@
-// What the store's calls answer, as one type, and the calls that make no rule, by their query (document 01, "The store").
+// What is asked of a store (a request) and answered, as types, and the calls that make no rule, by their query (document 01, "The store").
 mod answers;
 mod queries;
+mod requests;
 
 pub use answers::Answer;
 pub use answers::Reached;
@@ -8,3 +9,5 @@ pub use answers::done;
 pub use answers::made;
 pub use queries::Query;
 pub use queries::ask;
+pub use requests::Making;
+pub use requests::Request;

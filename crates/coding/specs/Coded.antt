@@ -9,10 +9,10 @@ use Rattle.rule.specs.Calls.{State}
 use Rattle.rule.specs.History.{Asked}
 use Rattle.rule.specs.declared.node.Node.{Node}
 use Rattle.asking.specs.declared.queries.Query.the-variants as the-query
-use Rattle.history.specs.Request.{askedBy, part}
-use Rattle.history.specs.declared.requests.Making.the-variants as the-making
-use Rattle.history.specs.declared.requests.Request.{Request}
-use Rattle.history.specs.declared.requests.Request.the-variants as the-request
+use Rattle.asking.specs.declared.requests.Making.the-variants as the-making
+use Rattle.asking.specs.declared.requests.Request.{Request}
+use Rattle.asking.specs.declared.requests.Request.the-variants as the-request
+use Rattle.asking.specs.Request.{askedBy, part}
 
 -- the words of one call
 abbrev pub callWords : ℕ

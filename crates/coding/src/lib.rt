@@ -1,7 +1,7 @@
 // The words that code one of the store's calls (document 01, "The book beside the store"): what is asked, or for open the state that it is given.
+use asking::Making;
 use asking::Query;
-use history::Making;
-use history::Request;
+use asking::Request;
 use rule::Node;
 use rule::Order;
 use store::Store;

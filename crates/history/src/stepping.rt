@@ -1,6 +1,6 @@
-use crate::requests::Making;
-use crate::requests::Request;
+use asking::Making;
 use asking::Reached;
+use asking::Request;
 use asking::ask;
 use asking::done;
 use asking::made;
@@ -9,7 +9,8 @@ use store::Stored;
 ghost use Rattle.rule.specs.Answers.{madeReply};
 ghost use Rattle.rule.specs.Calls.{Make};
 ghost use Rattle.store.specs.State.{stateOf};
-ghost use Rattle.history.specs.Request.{makingOf, Steps};
+ghost use Rattle.asking.specs.Request.{makingOf};
+ghost use Rattle.history.specs.Step.{Steps};
 
 // Make one call that makes a rule with records.
 fn make(store: Store, cells: &mut [u16], making: Making) -> Stored

@@ -17,8 +17,8 @@ use denote.Ref.{now}
 use denote.Triple.Clauses.{AtExit}
 use borrow.Fn.Kinds.{Dens, resT, endedOf}
 use Rattle.store.specs.State.{stateOf}
-use Rattle.history.specs.Request.{askedBy}
-use Rattle.history.specs.declared.requests.Request.{Request}
+use Rattle.asking.specs.declared.requests.Request.{Request}
+use Rattle.asking.specs.Request.{askedBy}
 use Rattle.coding.specs.Coded.{givenAt}
 use Rattle.playing.specs.Played.{CodedFrom}
 use Rattle.playing.proofs.play.Reads as play

@@ -7,7 +7,7 @@ use Rattle.rule.specs.Refusals.{refusal, openRows}
 use Rattle.rule.specs.Calls.{State}
 use Rattle.rule.specs.History.{Call, feed, BeginsOpen}
 use Rattle.rule.specs.Demands.{AfterList}
-use Rattle.history.specs.declared.requests.Request.the-variants as the-request
+use Rattle.asking.specs.declared.requests.Request.the-variants as the-request
 use Rattle.coding.specs.Coded.{requestAt, givenAt}
 use Rattle.playing.specs.Played.{Plays}
 use Rattle.playing.specs.Book.{fedPlayed, emptyBook}

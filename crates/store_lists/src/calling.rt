@@ -1,14 +1,14 @@
 // The calls of a list, each coded in words and made through `playing::play`, given the state and the cells as the last one left them. What is printed of a
 // call's answer is read off the words that it was noted in.
-use crate::reading::given;
-use crate::reading::state;
-use crate::session::CALLS;
-use crate::session::NONE;
-use crate::session::Session;
 use coding::CALL;
 use noting::NOTE;
 use playing::play;
 use rule::Order;
+use sessions::CALLS;
+use sessions::NONE;
+use sessions::Session;
+use sessions::given;
+use sessions::state;
 use store::Store;
 use words::lent::each_byte_is;
 use words::print;

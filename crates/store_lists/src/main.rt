@@ -1,8 +1,6 @@
 // The second program's lists of store calls, played on the engine's store. tests/second/play.rs has the language, and says what it must write.
 mod calling;
-mod ending;
 mod reading;
-mod session;
 
 fn main() {
     reading::run();

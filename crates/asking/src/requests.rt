@@ -1,4 +1,4 @@
-use asking::Query;
+use crate::queries::Query;
 use rule::Node;
 
 // A call that makes a rule with records, with its arguments.

@@ -1,9 +1,9 @@
--- `store_lists::session::Session::first` meets its contract: it counts up to 40.
+-- `sessions::session::Session::first` meets its contract: it counts up to 40.
 -- Assumes nothing.
 use Prim.Native.Nat.{_-_, _≤_}
 use borrow.Author.Needs.{needs}
-use Rattle.store_lists.proofs.session.Session.first.Statement.{statement}
-use Rattle.store_lists.proofs.session.Session.first.Tie as tie
+use Rattle.sessions.proofs.session.Session.first.Statement.{statement}
+use Rattle.sessions.proofs.session.Session.first.Tie as tie
 
 abbrev Inv-loop : tie.InvT-loop
 Inv-loop node self j₀ j = (j ≤ 40)

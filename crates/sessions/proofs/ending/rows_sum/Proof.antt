@@ -1,10 +1,10 @@
--- `store_lists::ending::rows_sum` meets its contract: the sum stays below 65,521.
+-- `sessions::ending::rows_sum` meets its contract: the sum stays below 65,521.
 -- Assumes nothing.
 use Prim.Native.Nat.{_-_, _<_, _≤_}
 use borrow.Author.Needs.{needs}
 use lib.ListN.{length}
-use Rattle.store_lists.proofs.ending.rows_sum.Statement.{statement}
-use Rattle.store_lists.proofs.ending.rows_sum.Tie as tie
+use Rattle.sessions.proofs.ending.rows_sum.Statement.{statement}
+use Rattle.sessions.proofs.ending.rows_sum.Tie as tie
 
 abbrev Inv-loop : tie.InvT-loop
 Inv-loop table sum₀ r₀ sum r = (sum < 65521) × (r ≤ length table)

@@ -1,9 +1,9 @@
--- `store_lists::ending::sum` meets its contract: the sum stays below 65,521.
+-- `sessions::ending::sum` meets its contract: the sum stays below 65,521.
 -- Assumes nothing.
 use Prim.Native.Nat.{_-_, _<_, _≤_}
 use borrow.Author.Needs.{needs}
-use Rattle.store_lists.proofs.ending.sum.Statement.{statement}
-use Rattle.store_lists.proofs.ending.sum.Tie as tie
+use Rattle.sessions.proofs.ending.sum.Statement.{statement}
+use Rattle.sessions.proofs.ending.sum.Tie as tie
 
 abbrev Inv-loop : tie.InvT-loop
 Inv-loop store cells used sum₀ k₀ sum k = (sum < 65521) × (k ≤ 65534)

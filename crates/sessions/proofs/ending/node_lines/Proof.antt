@@ -1,9 +1,9 @@
--- `store_lists::ending::node_lines` meets its contract: it counts up to 40.
+-- `sessions::ending::node_lines` meets its contract: it counts up to 40.
 -- Assumes nothing.
 use Prim.Native.Nat.{_-_, _≤_}
 use borrow.Author.Needs.{needs}
-use Rattle.store_lists.proofs.ending.node_lines.Statement.{statement}
-use Rattle.store_lists.proofs.ending.node_lines.Tie as tie
+use Rattle.sessions.proofs.ending.node_lines.Statement.{statement}
+use Rattle.sessions.proofs.ending.node_lines.Tie as tie
 
 abbrev Inv-loop : tie.InvT-loop
 Inv-loop s cells call₀ call = (call ≤ 40)

@@ -1,11 +1,11 @@
--- `store_lists::reading::fill` meets its contract: it counts up to the length.
+-- `sessions::beginning::fill` meets its contract: it counts up to the length.
 -- Assumes nothing.
 use Prim.Native.Nat.{_-_, _≤_}
 use borrow.Author.Needs.{needs}
 use lib.ListN.{length}
 use mathlib.Core.Path.{_≡_}
-use Rattle.store_lists.proofs.reading.fill.Statement.{statement}
-use Rattle.store_lists.proofs.reading.fill.Tie as tie
+use Rattle.sessions.proofs.beginning.fill.Statement.{statement}
+use Rattle.sessions.proofs.beginning.fill.Tie as tie
 
 abbrev Inv-loop : tie.InvT-loop
 Inv-loop cells₀ i₀ cells i = (i ≤ length cells₀) × (length cells ≡ length cells₀)
