@@ -31,7 +31,7 @@ static int asks_later(const uint8_t *level, const uint16_t *cells, unsigned at, 
     return m < 2 || at < level[cells[WIDTH * (m - 2)]];
 }
 
-// Whether one of the records that are entered is these three.
+// Whether one of the records that are entered has this flag and these children.
 static int known(const uint16_t *cells, const uint16_t *links, unsigned at, unsigned flag, unsigned low, unsigned high)
 {
     while (at != 0) {

@@ -5,7 +5,7 @@ use crate::{are_unfit, is_order, refuse, Diagram, Node, WIDTH};
 use std::collections::BTreeSet;
 
 /// The flag asked, the low node and the high node.
-pub type Record = [usize; 3];
+pub type Record = [usize; WIDTH];
 
 /// What a file says. There are as many flags as the order names.
 #[derive(Clone, Debug, PartialEq)]

@@ -52,7 +52,7 @@ pub struct Branches {
     pub yes: u16,
 }
 
-// The nodes that m comes to by a flag: its children if it asks the flag, else itself. All three fields are read before the test, which then needs no jump.
+// The nodes that m comes to by a flag: its children if it asks the flag, else itself. Its fields are read before the test, which then needs no jump.
 pub fn both_branches(cells: &[u16], flag: u16, m: u16) -> Branches
     requires { ⌜ m ≤ room (now cells) + 1 ⌝ }
     ensures { λ r. ⌜ (r .no ≡ child (now (cells .entry)) flag 0 m) × (r .yes ≡ child (now (cells .entry)) flag 1 m) ⌝ }

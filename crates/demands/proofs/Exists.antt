@@ -90,7 +90,7 @@ is? c k flag low high =
           ]
     ]
 
--- one of k records is these three, or none is
+-- one of k records has this flag and these children, or none has
 search-records : (c : List ℕ) (flag low high k : ℕ) → ((j : ℕ) × (j < k) × Is c j flag low high) ⊎ None c k flag low high
 search-records c flag low high zero = inr (λ j h. absurd (omega arith))
 search-records c flag low high (suc k) =

@@ -12,7 +12,7 @@ use Rattle.rule.specs.Order.{places, flags, fitOrder, inPlaces, packed}
 use Rattle.rule.specs.Refusals.{refusal, packRows}
 use Rattle.rule.specs.Reply.{Reply}
 use Rattle.rule.specs.Calls.{Pack}
-use Rattle.rule.specs.Demands.{Fit, Gives, PackedWell, PackedFirst}
+use Rattle.rule.specs.Demands.{Fit, Gives, PackedWell, PackedOrder}
 use Rattle.theory.proofs.Orders as orders
 use Rattle.demands.proofs.Stands.{accepted-reply, passed, packs}
 use Rattle.demands.proofs.Counts.{counts}
@@ -46,8 +46,12 @@ module _ {n nodes root : ℕ} {t order c w d x : List ℕ} {r : Reply} (b : Pack
             omega (arith, nodes-are, counts n other t (other-fit other l o) cells used top y, orders.packed-fewest n t (flags n other) (orders.fit-order-is n other o));
       }
 
-pub packed-first : PackedFirst
-packed-first n nodes root t order c w d x r b g other cells top l o y =
-    rw (order-is b g)
-    (orders.packed-first n t (flags n other) (orders.fit-order-is n other o)
-    (sym (counts n other t (other-fit b g other l o) cells nodes top y) ∙ nodes-are b g))
+pub packed-order : PackedOrder
+packed-order =
+    record {
+      fewest = λ n nodes root t order c w d x r b g. packed-well b g;
+      first = λ n nodes root t order c w d x r b g other cells top l o y.
+          rw (order-is b g)
+          (orders.packed-first n t (flags n other) (orders.fit-order-is n other o)
+          (sym (counts n other t (other-fit b g other l o) cells nodes top y) ∙ nodes-are b g));
+    }

@@ -7,7 +7,7 @@ use words::lent::each_is;
 use words::print;
 
 // The cells that are lent at most: a record more than the paper allows.
-pub const MOST: usize = cells::MOST + cells::WIDTH;
+pub const MOST_CELLS: usize = cells::MOST + cells::WIDTH;
 
 // What they are lent with.
 const JUNK: u16 = 7;
@@ -89,8 +89,8 @@ fn read(file: &[u8], cells: &mut [u16]) {
 
 // The line for a file that is read into so many cells.
 pub fn load(file: &[u8], lent: usize) {
-    let mut cells = [JUNK; MOST];
-    if MOST < lent {
+    let mut cells = [JUNK; MOST_CELLS];
+    if MOST_CELLS < lent {
         print::too_long();
         print::line_end();
         return;

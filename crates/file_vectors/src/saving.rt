@@ -1,5 +1,5 @@
 // A rule that is written into lent bytes that are full of junk.
-use crate::loading::MOST;
+use crate::loading::MOST_CELLS;
 use rule::Node;
 use rule::Order;
 use rule::Written;
@@ -104,13 +104,13 @@ pub fn save(text: &[u8], file: &mut [u8]) -> usize {
     let size = word.value as usize;
     let room = number(text, word.next);
     let length = room.value as usize;
-    let mut held = [0u16; MOST];
+    let mut held = [0u16; MOST_CELLS];
     cells(text, room.next, &mut held);
     if LABEL < size {
         print::too_long();
         return 0;
     }
-    if MOST < length {
+    if MOST_CELLS < length {
         print::too_long();
         return 0;
     }

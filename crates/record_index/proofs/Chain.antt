@@ -138,7 +138,7 @@ index-put {c} {index} {used} flag low high space x =
 
 -- ---- a search
 
--- from record `at` on none of the used records is these three, and the one before it has their hash
+-- from record `at` on none of the used records has this flag and these children, and the one before it has their hash
 pub record Searched (c : List ℕ) (used flag low high at : ℕ) : Type 0 where
   pub within : at ≤ used
   pub hits : (j : ℕ) → at ≡ j + 1 → hashAt c j ≡ hash flag low high

@@ -27,7 +27,7 @@ fn hash(flag: u16, low: u16, high: u16) -> usize
     (flag as usize * FLAG_FACTOR + low as usize + high as usize * HIGH_FACTOR) % HEADS
 }
 
-// A used record that is these three, or the number of them where none is.
+// A used record that has this flag and these children, or the number of them where none has.
 pub fn find(cells: &[u16], index: &[u16; INDEX], used: u16, flag: u16, low: u16, high: u16) -> u16
     requires { ⌜ (used ≤ room (now cells)) × (room (now cells) ≤ links) × Indexed (now cells) used (now index) ⌝ }
     ensures { λ r. ⌜ Finds (now (cells .entry)) used flag low high r ⌝ }

@@ -164,13 +164,14 @@ Demand3 =
 
 -- ---- the packed order
 
--- "The order has the fewest nodes of all n! orders; of several, the one first by dictionary comparison.": no other order that draws the table with as many nodes
--- stands before the one that an accepted pack hands back. (That none has fewer is `PackedWell.fewest`.)
-abbrev pub PackedFirst : Type 0
-PackedFirst =
-    (n nodes root : ℕ) (t order c w d x : List ℕ) (r : Reply) → Pack n t c w r d x → Gives r (nodes ∷ root ∷ order)
-    → (other cells : List ℕ) (top : ℕ) → length other ≡ places → fitOrder n other ≡ true → DrawnAs n other t cells nodes top
-    → Lex (flags n order) (flags n other)
+-- of what an accepted pack hands back
+pub record PackedOrder : Type 0 where
+  -- "The order has the fewest nodes of all n! orders;"
+  pub fewest : (n nodes root : ℕ) (t order c w d x : List ℕ) (r : Reply) → Pack n t c w r d x → Gives r (nodes ∷ root ∷ order) → PackedWell n t order nodes root d
+  -- "of several, the one first by dictionary comparison.": no other order that draws the table with as many nodes stands before it
+  pub first : (n nodes root : ℕ) (t order c w d x : List ℕ) (r : Reply) → Pack n t c w r d x → Gives r (nodes ∷ root ∷ order)
+      → (other cells : List ℕ) (top : ℕ) → length other ≡ places → fitOrder n other ≡ true → DrawnAs n other t cells nodes top
+      → Lex (flags n order) (flags n other)
 
 -- ---- rule files
 

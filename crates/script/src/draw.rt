@@ -1,7 +1,7 @@
 // A table drawn under an order, and held against what check, tabulate and walk say of it.
 use crate::lent::BYTE_JUNK;
 use crate::lent::CELL_JUNK;
-use crate::lent::MOST_ROWS;
+use crate::lent::MOST_BYTES;
 use parsing::flags_of;
 use rule::Counted;
 use rule::Done;
@@ -121,17 +121,17 @@ pub fn drawn(n: u8, table: &[u8], order: Order, cells: &mut [u16], bytes: &mut [
 
 // d TABLE ORDER
 pub fn draw(text: &[u8], at: usize) {
-    let mut table = [0u8; MOST_ROWS];
+    let mut table = [0u8; MOST_BYTES];
     let rows = digits(text, at, &mut table);
     let order = order(text, rows.next);
     let count = rows.value as usize;
-    if MOST_ROWS < count {
+    if MOST_BYTES < count {
         print::too_long();
         return;
     }
     let n = flags_of(count);
     let mut cells = [CELL_JUNK; cells::MOST];
-    let mut bytes = [BYTE_JUNK; MOST_ROWS];
+    let mut bytes = [BYTE_JUNK; MOST_BYTES];
     match drawn(n, &table[0..count], order, &mut cells, &mut bytes[0..count]) {
         Drawn::Refused(k) => print::refused(k),
         Drawn::Diagram { nodes, root } => {

@@ -2,8 +2,8 @@
 use crate::draw::drawn;
 use crate::lent::BYTE_JUNK;
 use crate::lent::CELL_JUNK;
+use crate::lent::MOST_BYTES;
 use crate::lent::MOST_CELLS;
-use crate::lent::MOST_ROWS;
 use rule::Counted;
 use rule::Done;
 use rule::Drawn;
@@ -42,13 +42,13 @@ fn built(n: u8, table: &[u8], order: Order, cells: &mut [u16], bytes: &mut [u8])
 pub fn build(text: &[u8], at: usize) {
     let n = number(text, at);
     let lent = number(text, n.next);
-    let mut table = [0u8; MOST_ROWS];
+    let mut table = [0u8; MOST_BYTES];
     let rows = digits(text, lent.next, &mut table);
     let order = order(text, rows.next);
     let mut cells = [CELL_JUNK; MOST_CELLS];
     let count = rows.value as usize;
     let length = lent.value as usize;
-    if MOST_ROWS < count {
+    if MOST_BYTES < count {
         print::too_long();
         return;
     }
@@ -56,7 +56,7 @@ pub fn build(text: &[u8], at: usize) {
         print::too_long();
         return;
     }
-    let mut bytes = [BYTE_JUNK; MOST_ROWS];
+    let mut bytes = [BYTE_JUNK; MOST_BYTES];
     built(
         flags(n.value),
         &table[0..count],
@@ -128,9 +128,9 @@ pub fn tabulate(text: &[u8], at: usize) {
     let bytes = number(text, of.next);
     let mut lent = [0u16; MOST_CELLS];
     let length = cells(text, bytes.next, &mut lent);
-    let mut rows = [BYTE_JUNK; MOST_ROWS];
+    let mut rows = [BYTE_JUNK; MOST_BYTES];
     let count = bytes.value as usize;
-    if MOST_ROWS < count {
+    if MOST_BYTES < count {
         print::too_long();
         return;
     }

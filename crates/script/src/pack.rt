@@ -3,8 +3,8 @@ use crate::draw::agrees;
 use crate::draw::flag_counts;
 use crate::lent::BYTE_JUNK;
 use crate::lent::CELL_JUNK;
+use crate::lent::MOST_BYTES;
 use crate::lent::MOST_CELLS;
-use crate::lent::MOST_ROWS;
 use crate::one::flags;
 use parsing::flags_of;
 use rule::Drawn;
@@ -49,10 +49,10 @@ fn compare(n: u8, table: &[u8], packed: Packed, cells: &[u16], bytes: &mut [u8])
 
 // p TABLE
 pub fn pack(text: &[u8], at: usize) {
-    let mut table = [0u8; MOST_ROWS];
+    let mut table = [0u8; MOST_BYTES];
     let rows = digits(text, at, &mut table);
     let count = rows.value as usize;
-    if MOST_ROWS < count {
+    if MOST_BYTES < count {
         print::too_long();
         return;
     }
@@ -69,7 +69,7 @@ pub fn pack(text: &[u8], at: usize) {
             flag_counts(n, &cells, nodes);
         }
     }
-    let mut bytes = [BYTE_JUNK; MOST_ROWS];
+    let mut bytes = [BYTE_JUNK; MOST_BYTES];
     compare(n, &table[0..count], packed, &cells, &mut bytes[0..count]);
     if !each_is(&workspace, 0) {
         print::text(b" workspace left");
@@ -114,12 +114,12 @@ pub fn pack_lent(text: &[u8], at: usize) {
     let n = number(text, at);
     let lent_cells = number(text, n.next);
     let lent_workspace = number(text, lent_cells.next);
-    let mut table = [0u8; MOST_ROWS];
+    let mut table = [0u8; MOST_BYTES];
     let rows = digits(text, lent_workspace.next, &mut table);
     let count = rows.value as usize;
     let length = lent_cells.value as usize;
     let width = lent_workspace.value as usize;
-    if MOST_ROWS < count {
+    if MOST_BYTES < count {
         print::too_long();
         return;
     }
@@ -133,7 +133,7 @@ pub fn pack_lent(text: &[u8], at: usize) {
     }
     let mut cells = [CELL_JUNK; MOST_CELLS];
     let mut workspace = [WORKSPACE_JUNK; WORKSPACE];
-    let mut bytes = [BYTE_JUNK; MOST_ROWS];
+    let mut bytes = [BYTE_JUNK; MOST_BYTES];
     lent(
         flags(n.value),
         &table[0..count],

@@ -7,13 +7,17 @@ use rule::Node;
 use store::Store;
 use words::print;
 ghost use Prim.Native.Nat.{_≤_, _<_};
+ghost use Rattle.rule.specs.Listing.{mostRows};
+
+// The rows of a table of ten flags.
+pub const MOST_ROWS: usize = 1024;
 
 // The rows of a table of so many flags.
 fn row_count(n: u8) -> usize
-    ensures { λ r. ⌜ r ≤ 1024 ⌝ }
+    ensures { λ r. ⌜ r ≤ mostRows ⌝ }
 {
     if 10 < n {
-        return 1024;
+        return MOST_ROWS;
     }
     arguments::row_count(n)
 }
@@ -59,7 +63,7 @@ fn rule_sum(store: Store, cells: &[u16], node: u16, bytes: &mut [u8]) -> u64
 fn node_sum(store: Store, cells: &[u16], node: u16) -> u64
     ensures { λ r. ⌜ r < 65521 ⌝ }
 {
-    let mut bytes = [9u8; 1024];
+    let mut bytes = [9u8; MOST_ROWS];
     let rows = row_count(store.n);
     rule_sum(store, cells, node, &mut bytes[0..rows])
 }
@@ -93,7 +97,7 @@ fn print_rule(store: Store, cells: &[u16], node: u16, bytes: &mut [u8]) {
 }
 
 fn print_table(store: Store, cells: &[u16], node: u16) {
-    let mut bytes = [9u8; 1024];
+    let mut bytes = [9u8; MOST_ROWS];
     let rows = row_count(store.n);
     print_rule(store, cells, node, &mut bytes[0..rows]);
 }

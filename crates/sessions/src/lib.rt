@@ -6,6 +6,7 @@ mod session;
 
 pub use beginning::begin;
 pub use beginning::fresh;
+pub use ending::MOST_ROWS;
 pub use ending::end;
 pub use reading::given;
 pub use reading::state;

@@ -15,7 +15,7 @@ use words::print;
 use words::read::byte;
 
 // The bytes that a tabulate is lent at most: one more than a table has rows.
-const BYTES: usize = 1025;
+const BYTES: usize = sessions::MOST_ROWS + 1;
 
 // What they are lent with.
 const JUNK: u8 = 9;

@@ -8,7 +8,7 @@ use words::lines;
 use words::print;
 
 // The cells that a list is lent at most: a record more than the paper allows.
-const MOST: usize = cells::MOST + cells::WIDTH;
+const MOST_CELLS: usize = cells::MOST + cells::WIDTH;
 
 // One line, and what it prints.
 fn line(s: Session, text: &[u8], cells: &mut [u16]) -> Session {
@@ -46,6 +46,6 @@ fn each_line(buffer: &mut [u8], cells: &mut [u16]) {
 // Every line of standard input.
 pub fn run() {
     let mut buffer = io::large_buffer();
-    let mut cells = [0u16; MOST];
+    let mut cells = [0u16; MOST_CELLS];
     each_line(&mut buffer, &mut cells);
 }

@@ -11,7 +11,6 @@ use native.Mathlib.Omega.{arith}
 use lib.Dec.{eqb}
 use borrow.Author.Tests.{eqb-true, eq-eqb}
 use Rattle.rule.specs.Bits.{bit, setBit, below}
-use Rattle.rule.specs.Tests.{keep}
 use Rattle.theory.specs.Sets.{having}
 use Rattle.theory.proofs.Member.{head, tail, not-nil, cast}
 use Rattle.theory.proofs.Bits.{below-in, in-below, bit-lt, bit-zero, bit-high, bits-eq, bit-same, bit-other, clear-le}

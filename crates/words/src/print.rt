@@ -40,13 +40,13 @@ fn character(digit: u8) -> u8 {
 }
 
 // The rows that are printed at most: those of a table of eleven flags.
-const MOST_ROWS: usize = 2048;
+const MOST_BYTES: usize = 2048;
 
 // The rows of a table, a digit each.
 pub fn rows(table: &[u8]) {
-    let mut text = [0u8; MOST_ROWS];
+    let mut text = [0u8; MOST_BYTES];
     let mut i = 0;
-    while i < MOST_ROWS {
+    while i < MOST_BYTES {
         if table.len() <= i {
             break;
         }
