@@ -33,15 +33,6 @@ fn refused(k: u8, order: Order, label: &[u8], cells: &[u16]) {
     }
 }
 
-// The numbers in cells.
-fn numbers(cells: &[u16]) {
-    let mut i = 0;
-    while i < cells.len() {
-        print::number(b"", cells[i]);
-        i += 1;
-    }
-}
-
 // The cells of so many records, and whether the others are 0.
 fn records(count: u16, cells: &[u16]) {
     let end = count as usize * cells::WIDTH;
@@ -50,7 +41,7 @@ fn records(count: u16, cells: &[u16]) {
         print::too_long();
         return;
     }
-    numbers(&cells[0..end]);
+    print::numbers(&cells[0..end]);
     if each_is(&cells[end..], 0) {
         print::text(b" rest 0");
     } else {

@@ -25,6 +25,15 @@ pub fn number(word: &[u8], number: u16) {
     value(number);
 }
 
+// The numbers in cells, a blank ahead of each.
+pub fn numbers(cells: &[u16]) {
+    let mut i = 0;
+    while i < cells.len() {
+        number(b"", cells[i]);
+        i += 1;
+    }
+}
+
 pub fn refused(number: u8) {
     io::write_all(STDOUT_FILENO, b"refused ");
     io::print_decimal(STDOUT_FILENO, number as u64);

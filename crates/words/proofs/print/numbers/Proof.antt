@@ -1,10 +1,10 @@
--- `file_vectors::loading::numbers` meets its contract: it counts up to the length.
+-- `words::print::numbers` meets its contract: it counts up to the length.
 -- Assumes nothing.
 use Prim.Native.Nat.{_-_, _≤_}
 use borrow.Author.Needs.{needs}
 use lib.ListN.{length}
-use Rattle.file_vectors.proofs.loading.numbers.Statement.{statement}
-use Rattle.file_vectors.proofs.loading.numbers.Tie as tie
+use Rattle.words.proofs.print.numbers.Statement.{statement}
+use Rattle.words.proofs.print.numbers.Tie as tie
 
 abbrev Inv-loop : tie.InvT-loop
 Inv-loop cells i₀ t3 i = (i ≤ length cells)
