@@ -36,7 +36,7 @@ fn main() {
     let mut cells = [7u16; 30];
     let mut bytes = [5u8; 9];
     let mut answers = [3u16; ANSWERS];
-    let order = Order { places: [0u8; 10] };
+    let order = Order::ZEROS;
     let first = Store {
         n: 0,
         order,

@@ -8,7 +8,7 @@ use words::read::number;
 
 // A state of zeros, and so many lent cells.
 pub fn fresh(lent: usize) -> Session {
-    let order = Order { places: [0u8; 10] };
+    let order = Order::ZEROS;
     let store = Store {
         n: 0,
         order,
