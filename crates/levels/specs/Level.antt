@@ -9,4 +9,4 @@ use Rattle.levels.specs.declared.level.Levels.{Levels}
 -- the level of each flag stands at the flag's place
 pub record Turned (l : Levels) : Type 0 where
   pub few : l .n ≤ places
-  pub is : (v : ℕ) → v < l .n → getD (l .places) v 0 ≡ level (flags (l .n) (l .order .places)) v
+  pub is : (v : ℕ) → v < l .n → getD (l .turned) v 0 ≡ level (flags (l .n) (l .order .places)) v

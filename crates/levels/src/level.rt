@@ -8,7 +8,7 @@ ghost use Rattle.levels.specs.Level.{Turned};
 pub struct Levels {
     pub n: u8,
     pub order: Order,
-    pub places: [u8; 10],
+    pub turned: [u8; 10],
 }
 
 // The level of flag v, n where the order does not name it.
@@ -33,13 +33,13 @@ impl Levels {
         requires { ⌜ n ≤ 10 ⌝ }
         ensures { λ r. ⌜ (r .n ≡ n) × (r .order ≡ order) × Turned r ⌝ }
     {
-        let mut places = [0u8; 10];
+        let mut turned = [0u8; 10];
         let mut v: u8 = 0;
         while v < n {
-            places[v as usize] = level_of(order, n, v);
+            turned[v as usize] = level_of(order, n, v);
             v += 1;
         }
-        Levels { n, order, places }
+        Levels { n, order, turned }
     }
 
     // The level of a flag.
@@ -47,7 +47,7 @@ impl Levels {
         requires { ⌜ Turned self × (v < self .n) ⌝ }
         ensures { λ r. ⌜ r ≡ level (flags (self .n) (self .order .places)) v ⌝ }
     {
-        let places = self.places;
-        places[v as usize]
+        let turned = self.turned;
+        turned[v as usize]
     }
 }

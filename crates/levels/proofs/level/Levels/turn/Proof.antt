@@ -10,10 +10,10 @@ use Rattle.levels.proofs.level.Levels.turn.Statement.{statement}
 use Rattle.levels.proofs.level.Levels.turn.Tie as tie
 
 abbrev Inv-loop : tie.InvT-loop
-Inv-loop n order places₀ v₀ places v = Turning n (order .places) places v
+Inv-loop n order turned₀ v₀ turned v = Turning n (order .places) turned v
 
 abbrev μ-loop : tie.MeasureT-loop
-μ-loop n order places₀ v₀ places v = n - v
+μ-loop n order turned₀ v₀ turned v = n - v
 
 loop-holds : tie.Need-loop-holds Inv-loop μ-loop
 loop-holds c = record { within = omega arith; lent = length-replicate {A = ℕ} 10 0; is = λ u h. absurd (omega arith) }
