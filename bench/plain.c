@@ -6,7 +6,10 @@
 
 enum { MOST_FLAGS = 10, HEADS = 4096 };
 
-static unsigned hash(unsigned flag, unsigned low, unsigned high) { return (flag * 349 + low + high * 633) % HEADS; }
+// The hash of the engine's record index.
+enum { FLAG_FACTOR = 349, HIGH_FACTOR = 633 };
+
+static unsigned hash(unsigned flag, unsigned low, unsigned high) { return (flag * FLAG_FACTOR + low + high * HIGH_FACTOR) % HEADS; }
 
 // The level of each flag, where the order names each once and has 0 from place n on.
 static int turn(unsigned n, const uint8_t *order, uint8_t *level)

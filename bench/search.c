@@ -4,7 +4,10 @@
 
 #include <string.h>
 
-enum { MOST_FLAGS = 10, SETS = 1 << MOST_FLAGS, MOST_WAYS = SETS / 2, WAY_HEADS = 1024, HEADS = 4096 };
+enum { MOST_FLAGS = 10, SET_COUNT = 1 << MOST_FLAGS, MOST_WAYS = SET_COUNT / 2, WAY_HEADS = 1024, HEADS = 4096 };
+
+// What the engine's hashes of ways and of records multiply by.
+enum { FLAG_FACTOR = 349, HIGH_FACTOR = 633 };
 
 // Way i with one flag more, at place p, fixed to 0; fixed to 1 it is 2^p on.
 static unsigned widen(unsigned i, unsigned p) { return i + (i >> p << p); }
@@ -21,7 +24,7 @@ static void fold(const uint16_t *source, unsigned p, uint16_t *codes, unsigned w
     for (unsigned i = 0; i < ways; i++) {
         const uint16_t *pair = source + widen(i, p);
         unsigned low = pair[0], high = pair[1u << p];
-        uint16_t *head = &heads[(low + high * 633) % WAY_HEADS];
+        uint16_t *head = &heads[(low + high * HIGH_FACTOR) % WAY_HEADS];
         unsigned at = *head;
         while (at != 0) {
             const uint16_t *other = source + widen(at - 1, p);
@@ -53,8 +56,8 @@ static unsigned count(const uint16_t *source, unsigned p, const uint16_t *codes,
 // The first best order by dictionary comparison: sets by rising number, so that every subset of a set is solved before it.
 static void search(unsigned n, const uint8_t *table, uint8_t *order, uint16_t *workspace)
 {
-    uint32_t starts[SETS], least[SETS];
-    uint8_t first[SETS];
+    uint32_t starts[SET_COUNT], least[SET_COUNT];
+    uint8_t first[SET_COUNT];
     unsigned all = (1u << n) - 1;
     for (unsigned r = 0; r <= all; r++)
         workspace[r] = table[r];
@@ -99,7 +102,7 @@ static int node(struct drawing *of, unsigned flag, unsigned low, unsigned high)
 {
     if (low == high)
         return low;
-    uint16_t *head = &of->heads[(flag * 349 + low + high * 633) % HEADS];
+    uint16_t *head = &of->heads[(flag * FLAG_FACTOR + low + high * HIGH_FACTOR) % HEADS];
     for (unsigned at = *head; at != 0; at = of->links[at - 1]) {
         const uint16_t *record = of->cells + WIDTH * (at - 1);
         if (record[0] == flag && record[1] == low && record[2] == high)
