@@ -33,6 +33,9 @@ WALK(new_walk, engine_walk)
 WALK(old_walk, old_engine_walk)
 WALK(c_walk, plain_walk)
 
+// The same refusal and the same first value: a walk may hand back more than the older one does.
+static int alike(uint64_t one, uint64_t other) { return refusal(one) == refusal(other) && first_value(one) == first_value(other); }
+
 #define CHECK(name, call)                                                                                                 \
     static uint64_t name(int i)                                                                                           \
     {                                                                                                                     \
@@ -115,7 +118,7 @@ static void compare(void)
                 uint16_t kept = *cell;
                 *cell = t % 2 ? random_below(stores[i].used + 2) : random_below(FLAGS + 1);
                 uint64_t answer = new_walk(i);
-                must(answer == old_walk(i) && answer == c_walk(i), "the walks differ");
+                must(alike(answer, old_walk(i)) && alike(answer, c_walk(i)), "the walks differ");
                 *cell = kept;
                 tried++;
                 refused += refusal(answer) != 0;

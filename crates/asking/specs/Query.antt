@@ -4,7 +4,7 @@ use mathlib.Core.Path.{_≡_}
 use mathlib.Core.List.{List}
 use Prim.Native.Nat.{ℕ}
 use lib.ListN.{take, drop}
-use Rattle.rule.specs.Results.{Query as Asks, tabulating, walking}
+use Rattle.rule.specs.Results.{Query as PaperQuery, tabulating, walking}
 use Rattle.rule.specs.Calls.{State, Ask}
 use Rattle.store.specs.State.{stateOf}
 use Rattle.asking.specs.declared.answers.Reached.{Reached}
@@ -13,7 +13,7 @@ use Rattle.asking.specs.declared.queries.Query.the-variants as the-query
 use Rattle.asking.specs.Answer.{answerReply, Kind, done-kind, said-kind, answerKind}
 
 -- a call that makes no rule, by its name in Results.antt
-abbrev pub queryOf : Query → Asks
+abbrev pub queryOf : Query → PaperQuery
 queryOf (the-query.Tabulate m length) = tabulating (m .number)
 queryOf (the-query.Walk m row) = walking (m .number) row
 

@@ -1,7 +1,7 @@
 -- A request as the definitions of crate rule have it.
 -- Assumes nothing.
 use Prim.Native.Nat.{ℕ}
-use Rattle.rule.specs.Results.{Making as Makes, flag, join, choose, fix}
+use Rattle.rule.specs.Results.{Making as PaperMaking, flag, join, choose, fix}
 use Rattle.rule.specs.Calls.{State}
 use Rattle.rule.specs.History.{Asked, open-call, constant-call, making-call, query-call}
 use Rattle.asking.specs.declared.requests.Making.{Making}
@@ -12,7 +12,7 @@ use Rattle.asking.specs.Answer.{Kind, done-kind, made-kind}
 use Rattle.asking.specs.Query.{queryOf, queryPart, queryKind}
 
 -- a call that makes a rule with records, by its name in Results.antt
-abbrev pub makingOf : Making → Makes
+abbrev pub makingOf : Making → PaperMaking
 makingOf (the-making.Flag i) = flag i
 makingOf (the-making.Join code f g) = join code (f .number) (g .number)
 makingOf (the-making.Choose f g h) = choose (f .number) (g .number) (h .number)

@@ -13,7 +13,7 @@ use Rattle.rule.specs.Refusals.{refusal, packRows}
 use Rattle.rule.specs.Reply.{Reply}
 use Rattle.rule.specs.Calls.{Pack}
 use Rattle.rule.specs.Demands.{Fit, Gives, PackedWell, PackedOrder}
-use Rattle.theory.proofs.Orders as orders
+use Rattle.theory.proofs.Orders.{fit-order-is, packed-flags, packed-fewest, packed-first}
 use Rattle.demands.proofs.Stands.{accepted-reply, passed, packs}
 use Rattle.demands.proofs.Counts.{counts}
 
@@ -30,7 +30,7 @@ module _ {n nodes root : ℕ} {t order c w d x : List ℕ} {r : Reply} (b : Pack
   order-is =
       let (_, v) = accepted-reply (refusal (packRows n t c w)) (b .answer) g in
       let e : order ≡ inPlaces (packed n t) = cc in
-      rw e (orders.packed-flags n t few)
+      rw e (packed-flags n t few)
 
   other-fit : (other : List ℕ) → length other ≡ places → fitOrder n other ≡ true → Fit n other t
   other-fit other l o =
@@ -43,7 +43,7 @@ module _ {n nodes root : ℕ} {t order c w d x : List ℕ} {r : Reply} (b : Pack
       record {
         stands = packs n nodes root t order c w d x r b g;
         fewest = λ other cells used top l o y.
-            omega (arith, nodes-are, counts n other t (other-fit other l o) cells used top y, orders.packed-fewest n t (flags n other) (orders.fit-order-is n other o));
+            omega (arith, nodes-are, counts n other t (other-fit other l o) cells used top y, packed-fewest n t (flags n other) (fit-order-is n other o));
       }
 
 pub packed-order : PackedOrder
@@ -52,6 +52,6 @@ packed-order =
       fewest = λ n nodes root t order c w d x r b g. packed-well b g;
       first = λ n nodes root t order c w d x r b g other cells top l o y.
           rw (order-is b g)
-          (orders.packed-first n t (flags n other) (orders.fit-order-is n other o)
+          (packed-first n t (flags n other) (fit-order-is n other o)
           (sym (counts n other t (other-fit b g other l o) cells nodes top y) ∙ nodes-are b g));
     }

@@ -1,4 +1,5 @@
 use operators::Digit;
+use rule::Node;
 ghost use mathlib.Core.Path.{_≡_};
 ghost use mathlib.Core.Bool.{not};
 ghost use lib.Dec.{ltb};
@@ -7,7 +8,8 @@ ghost use lib.Dec.{ltb};
 pub fn is_operator(code: u8) -> bool
     ensures { λ r. ⌜ r ≡ not (ltb 15 code) ⌝ }
 {
-    let digit = operators::operate(code, 0, 0);
+    let no = Node::NO.number;
+    let digit = operators::operate(code, no, no);
     match digit {
         Digit::Node(_) => true,
         Digit::Refused => false,

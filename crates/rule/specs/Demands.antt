@@ -1,7 +1,6 @@
--- Demands 2 and 3, each as one statement over the outcomes of Calls.antt and Files.antt, and two more: which order pack takes of several, and what the writer
--- writes the reader reads. (Demand 1 is
--- the contracts themselves: no call has a condition, each gives its number and every lent buffer, and the check proves that it reads, writes and ends within
--- what it was given.)
+-- Demands 2 and 3, each as one statement over the outcomes of Calls.antt and Files.antt, and two more: which order pack takes of several, and that what the
+-- writer writes the reader reads. (Demand 1 is the contracts themselves: no call has a condition, each gives its number and every lent buffer, and the check
+-- proves that it reads, writes and ends within what it was given.)
 -- Assumes nothing.
 use mathlib.Core.Path.{_≡_}
 use mathlib.Core.Logic.{_≢_, _↔_}
