@@ -81,6 +81,18 @@ const FILES: &[(&str, &[usize])] = &[
     ("0c011f", &[0]),
     ("0c0141", &[0]),
     ("0c00", &[0]),
+    // A length above 31 is 13 ahead of the label's own 11 and of all that follows.
+    ("041f", &[0]),
+    ("0420", &[0, 1]),
+    ("04201f", &[0]),
+    ("0421", &[0]),
+    ("0480", &[0]),
+    ("04ff", &[0]),
+    ("0c1f", &[0]),
+    ("0c20", &[0]),
+    ("0c20410000", &[0]),
+    ("070100200b", &[0]),
+    ("07010120", &[0]),
     // The record count: 6, then 10, then 11 for the records; its low byte stands first.
     ("08", &[0, WIDTH]),
     ("0801", &[0, WIDTH]),
@@ -253,6 +265,7 @@ const FILE_FAULTS: &[fn(&mut Vec<u8>, &mut usize)] = &[
     |file, _| file[1] = 11,
     |file, _| file[2] = file[3],
     |file, _| file[5] = 0,
+    |file, _| file[5] = 32,
     |file, _| file[6] = 0x1F,
     |file, _| file[8] = 0,
     |file, cells| file[8] = (*cells / WIDTH + 1) as u8,
@@ -270,7 +283,7 @@ const WRITE_FAULTS: &[fn(&mut Given, &mut usize)] = &[
     |given, _| given.root -= 1,
     |given, _| given.root += 2,
     |given, _| given.label[0] = 0x7F,
-    |given, _| given.label.resize(256, 0x41),
+    |given, _| given.label.resize(32, 0x41),
     |_, bytes| *bytes -= 1,
 ];
 
@@ -295,18 +308,33 @@ fn maps() -> Vec<String> {
     (0..32).flat_map(|map| reads(&bytes_of(map, &filed), &[WIDTH])).collect()
 }
 
-/// Labels of up to 256 bytes: in a file of 255, one fewer and one more than its length says.
+/// Labels at the edge: in a file that has as many bytes as its length says, one fewer, one more, and
+/// a last one that isn't printed; and written.
 fn labels() -> Vec<String> {
     let label = |length: usize| [vec![0x20; length - 1], vec![0x7E]].concat();
-    let file = |length: usize| [&[0x04, 255], &label(length)[..]].concat();
-    let mut lines: Vec<String> =
-        [254, 255, 256].iter().flat_map(|&l| reads(&file(l), &[0])).collect();
-    lines.extend(reads(&[&file(254)[..], &[0x7F]].concat(), &[0]));
-    for (length, bytes) in [(255, 258), (255, 257), (256, 300), (256, 0)] {
-        lines.push(format!("w 0 - 0 0 {bytes} {} 0", hex(&label(length))));
-        lines.push("r 0".to_string());
+    let mut lines = Vec::new();
+    for length in [30, 31, 32, 255] {
+        let file = |bytes: usize| [&[0x04, length], &label(bytes)[..]].concat();
+        let exact = usize::from(length);
+        let unprinted = [&file(exact - 1)[..], &[0x7F]].concat();
+        for file in [file(exact), file(exact - 1), file(exact + 1), unprinted] {
+            lines.extend(reads(&file, &[0]));
+        }
+    }
+    // In one byte the last two would be 0 and 31.
+    for length in [30, 31, 32, 255, 256, 256 + 31] {
+        lines.extend(labelled(label(length)));
     }
     lines
+}
+
+/// A rule of one flag under a label, written into as many bytes as its file has, one fewer and one
+/// more, and read back.
+fn labelled(label: Vec<u8>) -> Vec<String> {
+    let exact = 11 + label.len();
+    let filed = Filed { order: vec![0], label, records: vec![[0, 1, 0]], root: 2 };
+    let into = |bytes: usize| [say_write(&given(&filed), bytes), format!("r {WIDTH}")];
+    [exact, exact - 1, exact + 1].into_iter().flat_map(into).collect()
 }
 
 /// Records in a file and given to the writer. A file has one byte for a flag.

@@ -72,6 +72,19 @@ pub const WORKED: &[(&str, &str)] = &[
          refused 11 kept;refused 11 kept;refused 11 kept;refused 11 kept;refused 11 kept;\
          refused 11 kept",
     ),
+    // A label of 31 bytes is read and written; a length of 32 is refused at its byte, with no bytes
+    // behind it and with all of them.
+    (
+        "f 041f;r 0;f 0420;r 0;\
+         w 0 - 0 0 34 41414141414141414141414141414141414141414141414141414141414141 0;r 0;\
+         w 0 - 0 0 35 4141414141414141414141414141414141414141414141414141414141414141 0;\
+         f 04204141414141414141414141414141414141414141414141414141414141414141;r 0",
+        "refused 11 kept;refused 13 kept;\
+         bytes 34 07001f41414141414141414141414141414141414141414141414141414141414141 rest kept;\
+         n 0 order 0000000000 records 0 root 0 \
+         label 41414141414141414141414141414141414141414141414141414141414141 cells rest 0;\
+         refused 13 kept;refused 13 kept",
+    ),
     // Each byte of a file in turn. Without bit 0 the second byte is left over.
     (
         "f 1100;e 0 1;e 0 255;s 0 0;s 0 16",

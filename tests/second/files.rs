@@ -4,6 +4,10 @@
 use crate::{are_unfit, is_order, refuse, Diagram, Node, WIDTH};
 use std::collections::BTreeSet;
 
+/// "the longest label in any file of ours has exactly 31. That becomes the limit for reader and
+/// writer" (document 02, request 1).
+const LONGEST_LABEL: usize = 31;
+
 /// The flag asked, the low node and the high node.
 pub type Record = [usize; WIDTH];
 
@@ -99,7 +103,7 @@ pub fn read(file: &[u8], cells: usize) -> Result<Filed, usize> {
     let mut label: &[u8] = &[];
     if stands(2) {
         let length = usize::from(take(rest, 1)?[0]);
-        refuse(&[(13, length == 0)])?;
+        refuse(&[(13, length == 0 || length > LONGEST_LABEL)])?;
         label = take(rest, length)?;
         refuse(&[(13, label.iter().any(is_unprinted))])?;
     }
@@ -148,7 +152,7 @@ pub fn write(given: &Given, bytes: usize) -> Result<Vec<u8>, usize> {
     // "for a diagram with a root up to used records + 1, a record out of reach"
     let is_node = *root <= used + 1;
     refuse(&[(6, is_node && !are_reached(&records, *root)), (7, !is_node)])?;
-    refuse(&[(13, label.len() > 255 || label.iter().any(is_unprinted))])?;
+    refuse(&[(13, label.len() > LONGEST_LABEL || label.iter().any(is_unprinted))])?;
     let filed = Filed { order, label: label.clone(), records, root: *root };
     let needed = [(2, !label.is_empty()), (3, *used > 0), (4, *root == 1)];
     let bits = needed.iter().filter(|(_, needed)| *needed);

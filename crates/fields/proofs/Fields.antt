@@ -44,6 +44,15 @@ module _ (file : List ℕ) (x : Reading) where
     unfolding readLabel unless
     label-none g = rw (le-ltb (length file) (x .at + 1) (omega arith), g)
 
+    pub label-long : longestLabel < getD file (x .at) 0 → readLabel file x ≡ stop 13
+    unfolding readLabel unless
+    label-long g =
+        rw (
+          le-ltb (length file) (x .at + 1) (omega arith),
+          ne-eqb (getD file (x .at) 0) 0 (λ (e : getD file (x .at) 0 ≡ 0). omega arith),
+          lt-ltb longestLabel (getD file (x .at) 0) g,
+        )
+
     module _ (g : getD file (x .at) 0 ≡ 0 → ⊥) (short : getD file (x .at) 0 ≤ longestLabel) where
       pub label-past : length file < x .at + 1 + getD file (x .at) 0 → readLabel file x ≡ stop 11
       unfolding readLabel unless

@@ -3,6 +3,7 @@ use cursor::Step;
 use cursor::refused;
 use cursor::stands;
 use rule::LABEL_BIT;
+use rule::LONGEST_LABEL;
 ghost use Rattle.rule.specs.Bits.{bit};
 ghost use Rattle.rule.specs.Files.{labelBit, andThen, fieldIf, readLabel};
 ghost use Rattle.cursor.specs.Step.{outcomeOf, Before, Leads};
@@ -21,11 +22,15 @@ pub fn read_label(file: &[u8], map: u16, step: Step) -> Step
         return refused(11);
     }
     let size = file[at] as usize;
+    let start = at + 1;
+    let left = file.len() - start;
     if size == 0 {
         return refused(13);
     }
-    let start = at + 1;
-    if file.len() - start < size {
+    if LONGEST_LABEL < size {
+        return refused(13);
+    }
+    if left < size {
         return refused(11);
     }
     let end = start + size;

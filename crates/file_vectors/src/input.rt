@@ -12,7 +12,7 @@ use words::read::byte;
 use words::read::bytes;
 use words::read::number;
 
-// The longest file that a line may have: with 1,024 records it has 5,390 bytes.
+// The longest file that a line may have: with 1,024 records it has 5,166 bytes.
 const LONGEST: usize = 6000;
 
 // r CELLS, v CELLS PLACE, e CELLS ADD, s CELLS BYTE, c CELLS

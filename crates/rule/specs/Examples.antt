@@ -1,5 +1,5 @@
--- The settled examples that document 01 marks P, as rows of one table. Character r from the left, counted from 0, is row r; "Where no order is given with
--- the nodes, the table is packed." The proof of them all is proofs/Examples.antt.
+-- The settled examples that document 01 marks P, as rows of one table, and those that settle a request of document 02. Character r from the left, counted
+-- from 0, is row r; "Where no order is given with the nodes, the table is packed." The proof of them all is proofs/Examples.antt.
 -- Assumes nothing.
 use mathlib.Core.Bool.{Bool, _&&_}
 use mathlib.Core.List.{List, [], _∷_}
@@ -12,7 +12,8 @@ use Rattle.rule.specs.Level.{size}
 use Rattle.rule.specs.Order.{rising, orders, packed}
 use Rattle.rule.specs.Results.{rootBy}
 use Rattle.rule.specs.Cells.{width}
-use Rattle.rule.specs.Files.{reading, readNumber, readValues}
+use Rattle.rule.specs.Refusals.{refusal}
+use Rattle.rule.specs.Files.{reading, readNumber, readValues, writeRows}
 use Rattle.rule.specs.Text.{text}
 use Rattle.rule.specs.Listing.{flagsOf, rowsOf, askingPacked, listing}
 
@@ -38,6 +39,10 @@ pub data Example : Type 0 where
   under : String → String → ℕ → Example
   -- the file is read: so many flags in the rising order, so many nodes, this root
   file : List ℕ → ℕ → ℕ → ℕ → Example
+  -- the file is refused under this number
+  refusedFile : List ℕ → ℕ → Example
+  -- with a label of so many bytes, and lent no byte for the file, the writer refuses the rule "no" of no flags under this number
+  refusedLabel : ℕ → ℕ → Example
   -- the listing of the table's line is this text
   lists : String → String → Example
 
@@ -54,6 +59,8 @@ holds (inEach t k) = each (λ o. eqb (size o (digits t)) k) (orders (flagsOf (di
 holds (under t o k) = eqb (size (digits o) (digits t)) k
 holds (file f n k m) =
     eqb (readNumber (reading lentCells f)) 0 && same (readValues f (reading lentCells f)) (n ∷ k ∷ m ∷ rising n)
+holds (refusedFile f k) = eqb (readNumber (reading lentCells f)) k
+holds (refusedLabel many k) = eqb (refusal (writeRows 0 (rising 0) [] 0 0 (replicate many 0x41) [])) k
 holds (lists t s) = same (listing (text t)) (text s)
 
 unfoldable pub examples : List Example
@@ -77,4 +84,12 @@ examples =
     -- not marked P, but settled and as cheap: `10` is read the same as `13 00`, and the listing that the paper prints whole
     ∷ file (0x10 ∷ []) 0 0 1
     ∷ lists "0000010100110111" "flags 4\nnodes 4\norder 0 2 1 3\nflag 0 1\nflag 1 1\nflag 2 1\nflag 3 1\nyes 7\n"
+    -- request 1: a label's length of 32, as one of 0, is refused at its byte, though no bytes follow; one of 31 wants its bytes, and with them is read. The
+    -- writer refuses 32 bytes ahead of the lent ones
+    ∷ refusedFile (0x04 ∷ 0x20 ∷ []) 13
+    ∷ refusedFile (0x04 ∷ 0x00 ∷ []) 13
+    ∷ refusedFile (0x04 ∷ 0x1F ∷ []) 11
+    ∷ file (0x04 ∷ 0x1F ∷ replicate 31 0x41) 0 0 0
+    ∷ refusedLabel 32 13
+    ∷ refusedLabel 31 10
     ∷ []

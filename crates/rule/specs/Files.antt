@@ -1,4 +1,5 @@
--- Rule files, read and written (document 01, "Rule files" and the reader's sequence of "Refused, by where it is found"). A file is the list of its bytes.
+-- Rule files, read and written (document 01, "Rule files" and the reader's sequence of "Refused, by where it is found"; document 02, request 1). A file is
+-- the list of its bytes.
 -- Assumes nothing.
 use mathlib.Core.Path.{_≡_}
 use mathlib.Core.Bool.{Bool, cond, not, _&&_, _||_}
@@ -37,9 +38,9 @@ yesBit = 4
 abbrev pub mapEnd : ℕ
 mapEnd = 32
 
--- the longest label, for reader and writer: "a length byte 1 to 255", "for the writer a label above 255 bytes"
+-- request 1: "the longest label in any file of ours has exactly 31. That becomes the limit for reader and writer in place of 255."
 abbrev pub longestLabel : ℕ
-longestLabel = 255
+longestLabel = 31
 
 -- "record count, two bytes", "then five bytes each"
 abbrev pub countSize : ℕ
@@ -90,7 +91,8 @@ fileMap map = (leb mapEnd map || (eqb (bit map recordsBit) 1 && eqb (bit map yes
 abbrev pub emptyLabel : ℕ → Row
 emptyLabel size = (eqb size 0, 13)
 
--- "a label above 255 bytes"; the reader tests it at the length byte, which is never above 255
+-- request 1: "Refusal 13 covers a length above 31, found at the length byte and so ahead of the label's own bytes"; and with this limit document 01's "for the
+-- writer a label above .. bytes"
 abbrev pub longLabel : ℕ → Row
 longLabel size = (ltb longestLabel size, 13)
 
@@ -169,7 +171,7 @@ readOrder file x =
     unless (pastEnd file (x .at + x .n) ∷ orderPlaces (x .n) order ∷ [])
     (record { n = x .n; places = order; label = x .label; records = x .records; at = x .at + x .n })
 
--- "Bit 2: label, a length byte 1 to 255, then bytes 20 to 7E." "The label's length byte and the record count are fields of their own"
+-- "Bit 2: label, a length byte", from 1 to `longestLabel`, "then bytes 20 to 7E." "The label's length byte and the record count are fields of their own"
 unfoldable pub readLabel : List ℕ → Reading → Outcome
 readLabel file x =
     let label : Part = record { start = x .at + 1; size = getD file (x .at) 0 } in

@@ -14,8 +14,8 @@ pub const YES_BIT: u16 = 4;
 // A map from here on has a bit past these.
 pub const MAP_END: u16 = 1 << (YES_BIT + 1);
 
-// The most bytes of a label.
-pub const LONGEST_LABEL: usize = 255;
+// The most bytes of a label, read or written (document 02, request 1): as many as the fitting tool's screen shows.
+pub const LONGEST_LABEL: usize = 31;
 
 // The bytes of the record count, and of a record.
 pub const COUNT_SIZE: usize = 2;

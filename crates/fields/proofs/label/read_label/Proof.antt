@@ -1,11 +1,11 @@
--- `fields::label::read_label` meets its contract: each way is a test of Fields.antt. The length is a byte, so it is never too long.
+-- `fields::label::read_label` meets its contract: each way is a test of Fields.antt.
 -- Assumes nothing.
 use native.Mathlib.Omega.{arith}
 use borrow.Author.Needs.{needs}
 use denote.Ref.{now}
 use Rattle.rule.specs.Files.{readLabel}
 use Rattle.cursor.proofs.Stepped.{skipped, refuses, reads-on, refused-before}
-use Rattle.fields.proofs.Fields.{label-end, label-none, label-past, label-unprintable, label-read}
+use Rattle.fields.proofs.Fields.{label-end, label-none, label-long, label-past, label-unprintable, label-read}
 use Rattle.fields.proofs.label.read_label.Statement.{statement}
 use Rattle.fields.proofs.label.read_label.Tie as tie
 
@@ -43,50 +43,62 @@ returns-3 c =
 
 returns-4 : tie.Need-returns-4
 returns-4 c =
-    let some = c .before .before in
-    let past = some .before .before in
+    let past = c .before .before .before .before in
     let test = past .before .before in
     let a = test .before .before .before .args in
     let file = now (a .file) in
-    let byte = some .before .shared-slice-known2 .given (a .step .cursor .at) in
     record {
-      is = refuses file (a .map) 2 (readLabel file) (a .step) (test .before .stands .ensures) (test .if1 .left) 11 (c .refused3 .ensures) (omega arith)
-          (label-past file _ (past .if2 .left) (some .if3 .left) (omega arith) (omega (arith, c .before .if4 .taken)));
-      before = refused-before file 11 (c .refused3 .ensures);
+      is = refuses file (a .map) 2 (readLabel file) (a .step) (test .before .stands .ensures) (test .if1 .left) 13 (c .refused3 .ensures) (omega arith)
+          (label-long file _ (past .if2 .left) (omega (arith, c .before .if4 .taken)));
+      before = refused-before file 13 (c .refused3 .ensures);
     }
 
 returns-5 : tie.Need-returns-5
 returns-5 c =
-    let read = c .before .before in
-    let fits = read .before .before in
-    let some = fits .before in
+    let short = c .before .before in
+    let some = short .before in
     let past = some .before .before in
     let test = past .before .before in
     let a = test .before .before .before .args in
     let file = now (a .file) in
-    let byte = some .before .shared-slice-known2 .given (a .step .cursor .at) in
     record {
-      is = refuses file (a .map) 2 (readLabel file) (a .step) (test .before .stands .ensures) (test .if1 .left) 13 (c .refused4 .ensures) (omega arith)
-          (label-unprintable file _ (past .if2 .left) (some .if3 .left) (omega arith) (omega (arith, fits .if4 .left)) (read .all-printable .ensures) (c .before .if5 .taken));
-      before = refused-before file 13 (c .refused4 .ensures);
+      is = refuses file (a .map) 2 (readLabel file) (a .step) (test .before .stands .ensures) (test .if1 .left) 11 (c .refused4 .ensures) (omega arith)
+          (label-past file _ (past .if2 .left) (some .if3 .left) (omega (arith, short .if4 .left)) (omega (arith, c .before .if5 .taken)));
+      before = refused-before file 11 (c .refused4 .ensures);
     }
 
 returns-6 : tie.Need-returns-6
 returns-6 c =
+    let read = c .before .before in
+    let fits = read .before .before in
+    let short = fits .before in
+    let some = short .before in
+    let past = some .before .before in
+    let test = past .before .before in
+    let a = test .before .before .before .args in
+    let file = now (a .file) in
+    record {
+      is = refuses file (a .map) 2 (readLabel file) (a .step) (test .before .stands .ensures) (test .if1 .left) 13 (c .refused5 .ensures) (omega arith)
+          (label-unprintable file _ (past .if2 .left) (some .if3 .left) (omega (arith, short .if4 .left)) (omega (arith, fits .if5 .left)) (read .all-printable .ensures) (c .before .if6 .taken));
+      before = refused-before file 13 (c .refused5 .ensures);
+    }
+
+returns-7 : tie.Need-returns-7
+returns-7 c =
     let read = c .before in
     let fits = read .before .before in
-    let some = fits .before in
+    let short = fits .before in
+    let some = short .before in
     let past = some .before .before in
     let test = past .before .before in
     let start = test .before .before .before in
     let a = start .args in
     let file = now (a .file) in
     let b = start .pre in
-    let byte = some .before .shared-slice-known2 .given (a .step .cursor .at) in
     record {
       is = reads-on file (a .map) 2 (readLabel file) (a .step) (test .before .stands .ensures) (test .if1 .left)
-          (label-read file _ (past .if2 .left) (some .if3 .left) (omega arith) (omega (arith, fits .if4 .left)) (read .all-printable .ensures) (c .if5 .left));
-      before = record { few = b .few; reached = omega (arith, fits .if4 .left); label = omega (arith, fits .if4 .left); start = b .start; none = b .none };
+          (label-read file _ (past .if2 .left) (some .if3 .left) (omega (arith, short .if4 .left)) (omega (arith, fits .if5 .left)) (read .all-printable .ensures) (c .if6 .left));
+      before = record { few = b .few; reached = omega (arith, fits .if5 .left); label = omega (arith, fits .if5 .left); start = b .start; none = b .none };
     }
 
 pub read-label-spec : {M : Type 1} → statement M
@@ -99,17 +111,19 @@ read-label-spec =
     returns-2
     (λ c. search needs)
     (λ c. omega (arith, c .shared-slice-known2 .given (c .before .before .before .before .before .before .args .step .cursor .at)))
+    (λ c. search needs)
+    (λ c. search needs)
     (λ c κs. search needs)
     returns-3
-    (λ c. search needs)
-    (λ c. search needs)
     (λ c κs. search needs)
     returns-4
-    (λ c. search needs)
-    (λ c. search needs)
-    (λ c. search needs)
-    (λ c. search needs)
-    (λ c κs. search needs)
     (λ c κs. search needs)
     returns-5
-    returns-6)
+    (λ c. search needs)
+    (λ c. search needs)
+    (λ c. search needs)
+    (λ c. search needs)
+    (λ c κs. search needs)
+    (λ c κs. search needs)
+    returns-6
+    returns-7)
