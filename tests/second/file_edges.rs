@@ -81,7 +81,8 @@ const FILES: &[(&str, &[usize])] = &[
     ("0c011f", &[0]),
     ("0c0141", &[0]),
     ("0c00", &[0]),
-    // A length above 31 is 13 ahead of the label's own 11 and of all that follows.
+    // A length above 31 is 13, ahead of the label's own 11 and of all that follows; one of 31 is not,
+    // and an order's 4 comes first.
     ("041f", &[0]),
     ("0420", &[0, 1]),
     ("04201f", &[0]),
@@ -331,8 +332,8 @@ fn labels() -> Vec<String> {
 /// A rule of one flag under a label, written into as many bytes as its file has, one fewer and one
 /// more, and read back.
 fn labelled(label: Vec<u8>) -> Vec<String> {
-    let exact = 11 + label.len();
     let filed = Filed { order: vec![0], label, records: vec![[0, 1, 0]], root: 2 };
+    let exact = bytes_of(0b1111, &filed).len();
     let into = |bytes: usize| [say_write(&given(&filed), bytes), format!("r {WIDTH}")];
     [exact, exact - 1, exact + 1].into_iter().flat_map(into).collect()
 }

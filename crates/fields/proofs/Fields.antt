@@ -49,7 +49,7 @@ module _ (file : List ℕ) (x : Reading) where
     label-long g =
         rw (
           le-ltb (length file) (x .at + 1) (omega arith),
-          ne-eqb (getD file (x .at) 0) 0 (λ (e : getD file (x .at) 0 ≡ 0). omega arith),
+          ne-eqb (getD file (x .at) 0) 0 (λ e. omega arith),
           lt-ltb longestLabel (getD file (x .at) 0) g,
         )
 

@@ -85,7 +85,7 @@ examples =
     ∷ file (0x10 ∷ []) 0 0 1
     ∷ lists "0000010100110111" "flags 4\nnodes 4\norder 0 2 1 3\nflag 0 1\nflag 1 1\nflag 2 1\nflag 3 1\nyes 7\n"
     -- request 1: a label's length of 32, as one of 0, is refused at its byte, though no bytes follow; one of 31 wants its bytes, and with them is read. The
-    -- writer refuses 32 bytes ahead of the lent ones
+    -- writer's 13 stands ahead of its 10
     ∷ refusedFile (0x04 ∷ 0x20 ∷ []) 13
     ∷ refusedFile (0x04 ∷ 0x00 ∷ []) 13
     ∷ refusedFile (0x04 ∷ 0x1F ∷ []) 11
