@@ -33,7 +33,7 @@ WALK(new_walk, engine_walk)
 WALK(old_walk, old_engine_walk)
 WALK(c_walk, plain_walk)
 
-// The same refusal and the same first value: a walk may hand back more than the older one does.
+// The same refusal and the same first value: the older walk hands back no more.
 static int alike(uint64_t one, uint64_t other) { return refusal(one) == refusal(other) && first_value(one) == first_value(other); }
 
 #define CHECK(name, call)                                                                                                 \
@@ -105,7 +105,7 @@ static void make_diagrams(void)
     printf("%d random tables of ten flags have %.1f records each\n", TABLES, sum / TABLES);
 }
 
-// All three walks answer alike, of stores with one cell changed.
+// All three walks answer alike, of stores with one cell changed; this one's and that in plain C with the same flags asked.
 static void compare(void)
 {
     static const unsigned sizes[] = {4, 64, 256, 1024};
@@ -118,7 +118,7 @@ static void compare(void)
                 uint16_t kept = *cell;
                 *cell = t % 2 ? random_below(stores[i].used + 2) : random_below(FLAGS + 1);
                 uint64_t answer = new_walk(i);
-                must(alike(answer, old_walk(i)) && alike(answer, c_walk(i)), "the walks differ");
+                must(alike(answer, old_walk(i)) && answer == c_walk(i), "the walks differ");
                 *cell = kept;
                 tried++;
                 refused += refusal(answer) != 0;

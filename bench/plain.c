@@ -96,12 +96,14 @@ uint64_t plain_walk(uint8_t n, const uint8_t *order, const uint16_t *cells, size
         return 7;
     if (row >= 1u << n)
         return 9;
-    unsigned m = node;
+    unsigned m = node, asked = 0, count = 0;
     while (m >= 2) {
         const uint16_t *record = cells + WIDTH * (m - 2);
         m = row >> record[0] & 1 ? record[2] : record[1];
+        asked |= 1u << record[0];
+        count++;
     }
-    return (uint64_t)m << 8;
+    return (uint64_t)m << 8 | (uint64_t)asked << 24 | (uint64_t)count << 40;
 }
 
 // The answers of node m in the rows that have the row's values of the flags before level `at`, those from it on being 0 in the row.

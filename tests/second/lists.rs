@@ -106,6 +106,14 @@ const MADE: &[(&str, &str)] = &[
 const LENGTHS: &str =
     "o 2 10 0;f 0;t @1 4;o 3 012 7;f 2;t @4 8;t @4 4;o 1 0 0;t 1 2;t 0 8;o 0 - 1;t 1 1;o 4 3210 0;f 3;t @13 16";
 
+/// Ten flags, joined from the one asked last upwards by AND and OR in turn: for row 316 a walk asks
+/// all of them, for a row that differs from it in one flag those up to that flag. The last open
+/// leaves no tables to be told.
+const WALKED: &str = "o 10 3140592687 0;f 7;f 8;j 1 @2 @1;f 6;j 7 @4 @3;f 2;j 1 @6 @5;f 9;\
+    j 7 @8 @7;f 5;j 1 @10 @9;f 0;j 7 @12 @11;f 4;j 1 @14 @13;f 1;j 7 @16 @15;f 3;j 1 @18 @17;\
+    w @19 308;w @19 318;w @19 300;w @19 317;w @19 284;w @19 828;w @19 312;w @19 380;w @19 60;\
+    w @19 444;w @19 316;o 0 - 0";
+
 /// Open at its edges, with a call behind each that tells whether the state is fit.
 fn opens(dice: &mut Dice, cells: usize, states: &[&str]) -> Vec<String> {
     let mut list = Scribe::new(dice, cells);
@@ -180,9 +188,9 @@ fn random_steps(dice: &mut Dice, n: usize) -> Vec<String> {
     list.lines[1..=steps].to_vec()
 }
 
-/// These calls, in cells for ten records.
-fn said(dice: &mut Dice, calls: &str) -> Vec<String> {
-    let mut list = Scribe::new(dice, 30);
+/// These calls, in cells for so many records.
+fn said(dice: &mut Dice, room: usize, calls: &str) -> Vec<String> {
+    let mut list = Scribe::new(dice, WIDTH * room);
     calls.split(';').for_each(|line| drop(list.say(line)));
     list.end()
 }
@@ -309,7 +317,8 @@ fn lists(dice: &mut Dice) -> Vec<Vec<String>> {
     }
     lists.extend([0x0B5E_55ED_CAFE_0002, 0x0B5E_55ED_CAFE_0003].map(|seed| large(&mut Dice(seed))));
     lists.extend((0..200).map(|_| random(dice)));
-    lists.push(said(dice, LENGTHS));
+    lists.push(said(dice, 10, LENGTHS));
+    lists.push(said(dice, 19, WALKED));
     lists
 }
 

@@ -15,13 +15,14 @@
 //! is a digit for each place, `-` for none; what is not written of its ten places is 0. A node is
 //! a number or `@j`, the node that call j of this list handed back; calls are counted from 0.
 //!
-//! What is printed, U being the used number of the state handed back:
+//! What is printed, U being the used number of the state handed back, SET the flags asked as a
+//! number, bit v for flag v, and COUNT how many they are:
 //!
-//!     open accepted used U    open refused K used U          open
-//!     rule NODE used U        refused K used U               constant, flag, join, choose, fix
-//!     table DIGITS used U     refused K bytes kept used U    tabulate
-//!     answer A used U         refused K used U               walk
-//!     end used U                                             end
+//!     open           open accepted used U                      open refused K used U
+//!     tabulate       table DIGITS used U                       refused K bytes kept used U
+//!     walk           answer A asked SET number COUNT used U    refused K used U
+//!     any other call rule NODE used U                          refused K used U
+//!     end            end used U
 //!
 //! If the last open was accepted, there follow `node NODE DIGITS` for each node handed back since,
 //! each once and as it was named first, and `sum S`: 31r + 7, added up over the yes rows r of the
@@ -34,8 +35,8 @@
 //! that its call adds, children having smaller numbers than their parents.
 
 use crate::book::Book;
-use crate::digits;
 use crate::store::{make, row_count, Ask, Rule, State, Store};
+use crate::{collapse, digits, flags_asked, set_and_number};
 
 /// A node as the paper fixes it: by its number, or by the call that handed it back first.
 #[derive(Clone, Copy, Debug, Eq, Hash, PartialEq)]
@@ -202,6 +203,16 @@ impl Session {
         }
     }
 
+    /// The flags by the table; up to six flags the collapse asserts them of its own walks too.
+    fn walk(&self, name: Name, row: usize) -> String {
+        let (table, State { n, order, .. }) = (self.table(name), &self.store.state);
+        if *n <= 6 {
+            collapse(&table, &order[..*n]);
+        }
+        let (set, number) = set_and_number(&flags_asked(&table, &order[..*n], row));
+        format!("answer {} asked {set} number {number}", table[row])
+    }
+
     fn answer(&mut self, ask: &Ask, nodes: &[Given]) -> Result<String, usize> {
         if let Ask::Open(given) = ask {
             return self.open(given);
@@ -211,7 +222,7 @@ impl Session {
         let arguments: Vec<Name> = nodes.iter().map(|&node| self.name_of(node)).collect();
         match *ask {
             Ask::Tabulate(_) => Ok(format!("table {}", digits(&self.table(arguments[0])))),
-            Ask::Walk(row) => Ok(format!("answer {}", self.table(arguments[0])[row])),
+            Ask::Walk(row) => Ok(self.walk(arguments[0], row)),
             _ => self.hand_back(ask, &arguments),
         }
     }

@@ -1,10 +1,10 @@
 //! The second program: an oracle for the diagram engine, written apart from it. From a table it
 //! draws the full decision tree, applies the two collapsing steps of document 001, section 2.1,
-//! as they are worded, and finds the packed order by trying every order. It keeps a store by
-//! tables alone, and the plain book beside it, and reads and writes rule files. It checks the
-//! papers' examples, writes test vectors, lists a table and plays lines of files and of store
-//! calls. "The paper" below is document 01; `Err` holds the number of a refusal. Build:
-//! rustc -O --edition 2021 second.rs
+//! as they are worded, and finds the packed order by trying every order. It finds the flags that
+//! a walk asks by the table, and by the collapsed tree. It keeps a store by tables alone, and the
+//! plain book beside it, and reads and writes rule files. It checks the papers' examples, writes
+//! test vectors, lists a table and plays lines of files and of store calls. "The paper" below is
+//! document 01; `Err` holds the number of a refusal. Build: rustc -O --edition 2021 second.rs
 
 mod book;
 mod damaged;
@@ -102,13 +102,15 @@ impl Diagram {
         })
     }
 
-    /// "A walk starts at the root and takes low or high by the row until an end node."
-    fn walk(&self, row: usize) -> Node {
-        let mut node = self.nodes[self.root];
+    /// "A walk starts at the root and takes low or high by the row until an end node": that node,
+    /// and the flags of the nodes passed.
+    fn walk(&self, row: usize) -> (Node, Vec<usize>) {
+        let (mut node, mut asked) = (self.nodes[self.root], Vec::new());
         while let Node::Internal(flag, sons) = node {
+            asked.push(flag);
             node = self.nodes[sons[(row >> flag) & 1]];
         }
-        node
+        (node, asked)
     }
 }
 
@@ -118,6 +120,26 @@ struct Drawing {
     nodes: usize,
     flags: Vec<usize>,
     root: usize,
+}
+
+/// "the flags asked" by a row's walk, in their sequence and by the table alone: flag v where the
+/// rule, with the flags before v in the order fixed as in the row, depends on v.
+fn flags_asked(table: &[usize], order: &[usize], row: usize) -> Vec<usize> {
+    let (mut asked, mut before) = (Vec::new(), 0);
+    for &v in order {
+        let mut alike = (0..table.len()).filter(|other| (other ^ row) & before == 0);
+        if alike.any(|other| table[other] != table[other ^ (1 << v)]) {
+            asked.push(v);
+        }
+        before |= 1 << v;
+    }
+    asked
+}
+
+/// "a ten-bit set of the flags asked and their number" (document 02, request 2): bit v of the set
+/// is 1 for flag v.
+fn set_and_number(asked: &[usize]) -> (usize, usize) {
+    (asked.iter().map(|v| 1 << v).sum(), asked.len())
 }
 
 /// The table under the order: the tree, collapsed until neither step applies.
@@ -132,7 +154,8 @@ fn collapse(table: &[usize], order: &[usize]) -> Diagram {
     }
     assert_eq!(diagram.step(0), None, "a step still applies");
     for (row, &answer) in table.iter().enumerate() {
-        assert_eq!(diagram.walk(row), Node::Terminal(answer), "row {row} after the collapse");
+        let expected = (Node::Terminal(answer), flags_asked(table, order, row));
+        assert_eq!(diagram.walk(row), expected, "row {row} after the collapse");
     }
     diagram
 }
@@ -400,6 +423,15 @@ fn large_tables() -> Vec<Vec<usize>> {
     each_once(tables)
 }
 
+/// What the walks of all rows hand back beside their answers, as one number: row by row, 31 times
+/// the sum so far, the set, 1,024 times the number and 7, modulo 65,521.
+fn sum_of_walks(table: &[usize], order: &[usize]) -> usize {
+    (0..table.len()).fold(0, |sum, row| {
+        let (set, number) = set_and_number(&flags_asked(table, order, row));
+        (31 * sum + set + 1024 * number + 7) % 65_521
+    })
+}
+
 fn vectors(directory: &str) -> std::io::Result<()> {
     let mut dice = Dice(0x0B5E_55ED_CAFE_0001);
     let tables = vector_tables(&mut dice);
@@ -414,7 +446,8 @@ fn vectors(directory: &str) -> std::io::Result<()> {
         let Drawing { nodes, flags, .. } = draw(table, order);
         assert_eq!(nodes, count_nodes(table, order), "counted otherwise");
         build_in += &format!("d {} {}\n", digits(table), digits(order));
-        build_out += &format!("nodes {nodes} {}\n", phrase("flags", &flags));
+        let (flags, walks) = (phrase("flags", &flags), sum_of_walks(table, order));
+        build_out += &format!("nodes {nodes} {flags} walks {walks}\n");
     };
     for table in tables.iter().filter(|table| table.len() <= 16).take(60) {
         orders(flag_count(table), &[]).iter().for_each(|order| case(table, order));

@@ -19,18 +19,18 @@ pub const LISTS: &[(&str, &str)] = &[
     (
         "list 8r;o 3 012 9;f 0;f 1;j 6 @1 @2;f 2;j 6 @3 @4;x @3 0 1;x 5 0 1;x @3 0 0;w @6 2;end",
         "open accepted used 0;rule 2 used 1;rule 3 used 2;rule 5 used 4;rule 6 used 5;\
-         refused 10 used 5;rule inner used 5;rule @6 used 5;rule 3 used 5;answer 0 used 5;\
-         end used 5;node 2 01010101;node 3 00110011;node 5 01100110;node 6 00001111;\
-         node inner 11001100;sum 2620",
+         refused 10 used 5;rule inner used 5;rule @6 used 5;rule 3 used 5;\
+         answer 0 asked 2 number 1 used 5;end used 5;node 2 01010101;node 3 00110011;\
+         node 5 01100110;node 6 00001111;node inner 11001100;sum 2620",
     ),
     // x0x1 + x2x3 needs its root and x1 + x2x3; in 0 2 1 3 also x1 + x3.
     (
         "list 8r;o 4 0123 0;f 0;f 1;j 1 @1 @2;f 2;f 3;j 1 @4 @5;j 7 @3 @6;w @7 12;w @7 6;end",
         "open accepted used 0;rule 2 used 1;rule 3 used 2;rule 4 used 3;rule 5 used 4;\
-         rule 6 used 5;rule 7 used 6;rule 9 used 8;answer 1 used 8;answer 0 used 8;end used 8;\
-         node 2 0101010101010101;node 3 0011001100110011;node 4 0001000100010001;\
-         node 5 0000111100001111;node 6 0000000011111111;node 7 0000000000001111;\
-         node 9 0001000100011111;sum 17697",
+         rule 6 used 5;rule 7 used 6;rule 9 used 8;answer 1 asked 13 number 3 used 8;\
+         answer 0 asked 13 number 3 used 8;end used 8;node 2 0101010101010101;\
+         node 3 0011001100110011;node 4 0001000100010001;node 5 0000111100001111;\
+         node 6 0000000011111111;node 7 0000000000001111;node 9 0001000100011111;sum 17697",
     ),
     (
         "list 8r;o 4 0213 0;f 0;f 1;j 1 @1 @2;f 2;f 3;j 1 @4 @5;j 7 @3 @6;o 9 0 3;end",
@@ -44,12 +44,38 @@ pub const LISTS: &[(&str, &str)] = &[
          rule 4 used 3;rule 3 used 3;rule 2 used 3;refused 7 used 3;end used 3;node 2 0101;\
          node 3 0011;node 4 0100;sum 345",
     ),
+    // Two of three flags: where the first two are alike, both 0 or both 1, the third is not asked.
+    // An end node asks none.
+    (
+        "list 6r;o 3 012 0;f 0;f 1;f 2;j 7 @2 @3;j 1 @2 @3;c @1 @4 @5;w 7 0;w @6 7;w @6 2;w @6 5;\
+         w 5 4;w 1 5;w 8 0;w @6 8;end",
+        "open accepted used 0;rule 2 used 1;rule 3 used 2;rule 4 used 3;rule 5 used 4;\
+         rule 6 used 5;rule 7 used 6;answer 0 asked 3 number 2 used 6;\
+         answer 1 asked 3 number 2 used 6;answer 0 asked 7 number 3 used 6;\
+         answer 1 asked 7 number 3 used 6;answer 1 asked 6 number 2 used 6;\
+         answer 1 asked 0 number 0 used 6;refused 7 used 6;refused 9 used 6;end used 6;\
+         node 2 01010101;node 3 00110011;node 4 00001111;node 5 00111111;node 6 00000011;\
+         node 7 00010111;sum 3795",
+    ),
+    // x0 where x2 is 1, else x1: with flag 2 asked first, one of the others is not. In 0 1 2 it
+    // needs its root, x1 + x2, the opposite of x2, and x1 without x2, an inner node that is walked.
+    (
+        "list 7r;o 3 201 0;f 0;f 1;f 2;c @3 @1 @2;w @4 6;w @4 1;w 0 7;\
+         o 3 012 0;f 0;f 1;f 2;c @11 @9 @10;w @12 6;w @12 3;x @12 0 0;w @15 6;w @15 5;end",
+        "open accepted used 0;rule 2 used 1;rule 3 used 2;rule 4 used 3;rule 5 used 4;\
+         answer 0 asked 5 number 2 used 4;answer 0 asked 6 number 2 used 4;\
+         answer 0 asked 0 number 0 used 4;open accepted used 0;rule 2 used 1;rule 3 used 2;\
+         rule 4 used 3;rule 8 used 7;answer 0 asked 7 number 3 used 7;\
+         answer 1 asked 3 number 2 used 7;rule inner used 7;answer 0 asked 6 number 2 used 7;\
+         answer 0 asked 2 number 1 used 7;end used 7;node 2 01010101;node 3 00110011;\
+         node 4 00001111;node 8 00110101;node inner 00110000;sum 3637",
+    ),
     // No cells hold no records, and are sound before any open.
     (
         "list 0;k 1;j 6 @0 1;f 0;t 1 1;w 1 0;w 2 0;w 1 1;o 1 - 5;f 0;k 0;end",
-        "rule 1 used 0;rule 0 used 0;refused 9 used 0;table 1 used 0;answer 1 used 0;\
-         refused 7 used 0;refused 9 used 0;open accepted used 0;refused 10 used 0;rule 0 used 0;\
-         end used 0;node 0 00;sum 0",
+        "rule 1 used 0;rule 0 used 0;refused 9 used 0;table 1 used 0;\
+         answer 1 asked 0 number 0 used 0;refused 7 used 0;refused 9 used 0;open accepted used 0;\
+         refused 10 used 0;rule 0 used 0;end used 0;node 0 00;sum 0",
     ),
     // Cells as lent are not; a refused open leaves the state that it was given.
     (

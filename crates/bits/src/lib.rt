@@ -1,4 +1,4 @@
-// The bits of a row: the value that it gives a flag, and the row with a flag's value set.
+// The bits of a row, or of a set of flags: the value that it gives a flag, and the row with a flag's value set.
 ghost use mathlib.Core.Path.{_≡_};
 ghost use Prim.Native.Nat.{_<_};
 ghost use Rattle.rule.specs.Bits.{bit, setBit};

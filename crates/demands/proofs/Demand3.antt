@@ -21,16 +21,12 @@ use Rattle.rule.specs.History.{Book, inBook}
 use Rattle.rule.specs.Demands.{Gives, RuleKept, Demand3}
 use Rattle.theory.proofs.Tests.{and-split}
 use Rattle.theory.proofs.Walks.{table-row}
-use Rattle.demands.proofs.Stands.{accepted-reply, passed}
+use Rattle.demands.proofs.Stands.{accepted-reply, accepted-zero, passed}
 use Rattle.demands.proofs.Counts.{equally}
 use Rattle.demands.proofs.Packed.{packed-well}
 use Rattle.demands.proofs.Beside.{After, live, shut, steps-from-open}
 
 -- ---- the number that tabulate gives
-
-accepted-zero : (k : ℕ) (values : List ℕ) {r : Reply} → r ≡ reply k values → Accepted r → k ≡ 0
-accepted-zero zero values e h = refl
-accepted-zero (suc k) values e h = absurd (rw e at h)
 
 number-of : (k : ℕ) (values : List ℕ) → numberOf (reply k values) ≡ k
 number-of zero values = refl

@@ -15,3 +15,4 @@ pub mod Demand2
 pub mod Packed
 pub mod Beside
 pub mod Demand3
+pub mod Reported

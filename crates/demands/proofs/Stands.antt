@@ -33,6 +33,10 @@ pub accepted-reply : (k : ℕ) {r : Reply} {values given : List ℕ} → r ≡ r
 accepted-reply zero e q = (refl, cc)
 accepted-reply (suc k) e q = let z : _≡_ {A = ℕ} 0 1 = cc in absurd (omega arith)
 
+pub accepted-zero : (k : ℕ) (values : List ℕ) {r : Reply} → r ≡ reply k values → Accepted r → k ≡ 0
+accepted-zero zero values e h = refl
+accepted-zero (suc k) values e h = absurd (rw e at h)
+
 -- no row applies
 abbrev pub Passed : List Row → Type 0
 Passed [] = Unit {0}

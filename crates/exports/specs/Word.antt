@@ -3,26 +3,17 @@
 use mathlib.Core.Path.{_≡_}
 use mathlib.Core.List.{List}
 use Prim.Native.Nat.{ℕ, _+_, _*_}
-use lib.ListN.{getD, drop}
-use Rattle.rule.specs.Reply.{Reply, accepted, refused, numberOf}
+use lib.ListN.{drop}
+use Rattle.rule.specs.Reply.{Reply, accepted, refused, numberOf, valueAt}
 use Rattle.rule.specs.Calls.{State}
 
--- from the lowest bit on: the refusal in 8 bits, 0 for none, then two values in 16 bits each
-abbrev pub word : ℕ → ℕ → ℕ → ℕ
-word number first second = number + first * 256 + second * 16777216
+-- from the lowest bit on: the refusal in 8 bits, 0 for none, then three values in 16 bits each
+abbrev pub word : ℕ → ℕ → ℕ → ℕ → ℕ
+word number first second third = number + first * 256 + second * 16777216 + third * 1099511627776
 
--- the values of a reply
-abbrev pub valuesOf : Reply → List ℕ
-valuesOf (accepted values) = values
-valuesOf (refused k values) = values
-
--- a reply's value at a place, 0 where it has none there
-abbrev pub valueAt : Reply → ℕ → ℕ
-valueAt a i = getD (valuesOf a) i 0
-
--- r is the number of a reply of which the call's own promise holds: its refusal and its first two values
+-- r is the number of a reply of which the call's own promise holds: its refusal and its first three values, 0 for those that it has not
 abbrev pub Codes : (Reply → Type 0) → ℕ → Type 0
-Codes P r = (a : Reply) × P a × (r ≡ word (numberOf a) (valueAt a 0) (valueAt a 1))
+Codes P r = (a : Reply) × P a × (r ≡ word (numberOf a) (valueAt a 0) (valueAt a 1) (valueAt a 2))
 
 -- the ten bytes that pack is lent for the order: the reply's values behind the first two, and as they were where it is refused
 abbrev pub orderAfter : Reply → List ℕ → List ℕ
@@ -31,8 +22,8 @@ orderAfter (refused k values) old = old
 
 -- pack: the order goes to lent bytes
 abbrev pub CodesOrder : (Reply → Type 0) → List ℕ → ℕ → List ℕ → Type 0
-CodesOrder P old r places = (a : Reply) × P a × (r ≡ word (numberOf a) (valueAt a 0) (valueAt a 1)) × (places ≡ orderAfter a old)
+CodesOrder P old r places = (a : Reply) × P a × (r ≡ word (numberOf a) (valueAt a 0) (valueAt a 1) 0) × (places ≡ orderAfter a old)
 
 -- the store's calls: the used number of the state that is handed back goes before the node
 abbrev pub CodesState : (Reply → State → Type 0) → ℕ → Type 0
-CodesState P r = (a : Reply) × (s : State) × P a s × (r ≡ word (numberOf a) (s .used) (valueAt a 0))
+CodesState P r = (a : Reply) × (s : State) × P a s × (r ≡ word (numberOf a) (s .used) (valueAt a 0) 0)

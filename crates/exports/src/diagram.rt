@@ -1,5 +1,6 @@
 // The calls on single diagrams.
 use crate::values::answer;
+use crate::values::walked;
 use rule::Counted;
 use rule::Done;
 use rule::Drawn;
@@ -37,7 +38,7 @@ pub extern "C" fn engine_check(n: u8, places: &[u8; 10], cells: &[u16], used: u1
     }
 }
 
-// Walk: the answer.
+// Walk: the answer, the set of the flags asked, and their number.
 #[no_mangle]
 pub extern "C" fn engine_walk(
     n: u8,
@@ -57,7 +58,11 @@ pub extern "C" fn engine_walk(
         Node { number: node },
         row,
     ) {
-        Said::Answer(a) => answer(0, a as u16, 0),
+        Said::Answer {
+            answer,
+            asked,
+            count,
+        } => walked(answer, asked, count),
         Said::Refused(k) => answer(k, 0, 0),
     }
 }

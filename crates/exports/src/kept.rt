@@ -6,14 +6,14 @@ use rule::Order;
 use store::Store;
 use store::Stored;
 ghost use mathlib.Core.Path.{_≡_};
-ghost use Rattle.rule.specs.Reply.{numberOf};
+ghost use Rattle.rule.specs.Reply.{numberOf, valueAt};
 ghost use Rattle.rule.specs.Answers.{madeReply};
 ghost use Rattle.rule.specs.Calls.{Join};
-ghost use Rattle.exports.specs.Word.{word, valueAt, CodesState};
+ghost use Rattle.exports.specs.Word.{word, CodesState};
 
 // What a call that makes a rule hands back.
 fn stored(made: Stored) -> u64
-    ensures { λ r. ⌜ r ≡ word (numberOf (madeReply (made .answer))) (made .store .used) (valueAt (madeReply (made .answer)) 0) ⌝ }
+    ensures { λ r. ⌜ r ≡ word (numberOf (madeReply (made .answer))) (made .store .used) (valueAt (madeReply (made .answer)) 0) 0 ⌝ }
 {
     let used = made.store.used;
     let said = made.answer;

@@ -1,41 +1,49 @@
--- Answers in words, two to a call: the refusal's number, 0 where the call is accepted, and the first value that it hands back, 0 where there is none.
+-- Answers in words, four to a call: the refusal's number, 0 where the call is accepted, and the values that it hands back, of which no call has more than three,
+-- 0 where there is none.
 -- Assumes nothing.
-use mathlib.Core.List.{List, [], _∷_}
-use Prim.Native.Nat.{ℕ}
+use mathlib.Core.Path.{_≡_}
+use mathlib.Core.List.{List, [], _∷_, _++_}
+use Prim.Native.Nat.{ℕ, _*_}
+use lib.ListN.{getD, take, drop}
 use Rattle.rule.specs.Results.{Query, tabulating, walking}
-use Rattle.rule.specs.Reply.{Reply, accepted, refused, reply, numberOf}
+use Rattle.rule.specs.Reply.{Reply, reply, numberOf, valueAt}
 use Rattle.rule.specs.History.{Asked, open-call, constant-call, making-call, query-call, Call}
 
 -- the words of one answer
 abbrev pub noteWords : ℕ
-noteWords = 2
+noteWords = 4
 
 -- ---- from answers to words
 
--- the first value of a reply, 0 where it has none ("A refusal hands back its number and zeros")
-abbrev pub firstOf : Reply → ℕ
-firstOf (accepted []) = 0
-firstOf (accepted (v ∷ values)) = v
-firstOf (refused k values) = 0
-
 abbrev pub noteOf : Reply → List ℕ
-noteOf r = numberOf r ∷ firstOf r ∷ []
+noteOf r = numberOf r ∷ valueAt r 0 ∷ valueAt r 1 ∷ valueAt r 2 ∷ []
+
+-- four words tell a reply: its number and its first three values
+abbrev pub Tells : ℕ → ℕ → ℕ → ℕ → Reply → Type 0
+Tells number first second third r = (number ≡ numberOf r) × (first ≡ valueAt r 0) × (second ≡ valueAt r 1) × (third ≡ valueAt r 2)
 
 -- the answers of a list of calls, one behind the other
 abbrev pub notes : List Call → List ℕ
 notes [] = []
-notes (x ∷ xs) = numberOf (x .answer) ∷ firstOf (x .answer) ∷ notes xs
+notes (x ∷ xs) = noteOf (x .answer) ++ notes xs
 
 -- ---- from words to answers
 
--- the values of an accepted query whose first one, where it hands one back, is this
-abbrev pub valuesBy : Query → ℕ → List ℕ
-valuesBy (tabulating m) value = []
-valuesBy (walking m row) value = value ∷ []
+-- the words that the answer of call k stands in
+abbrev pub noteAt : List ℕ → ℕ → List ℕ
+noteAt a k = take noteWords (drop (k * noteWords) a)
 
--- the reply to what was asked that a number and a value note: whether a call hands back a value is known from what it is
-abbrev pub replyBy : Asked → ℕ → ℕ → Reply
-replyBy (open-call given) number value = reply number []
-replyBy (constant-call v) number value = reply number (value ∷ [])
-replyBy (making-call x) number value = reply number (value ∷ [])
-replyBy (query-call q) number value = reply number (valuesBy q value)
+-- how many values a call hands back, which is known from what it is
+abbrev pub queryValues : Query → ℕ
+queryValues (tabulating m) = 0
+queryValues (walking m row) = 3
+
+abbrev pub askedValues : Asked → ℕ
+askedValues (open-call given) = 0
+askedValues (constant-call v) = 1
+askedValues (making-call x) = 1
+askedValues (query-call q) = queryValues q
+
+-- the reply to what was asked that a note's words tell
+abbrev pub replyBy : Asked → List ℕ → Reply
+replyBy q words = reply (getD words 0 0) (take (askedValues q) (drop 1 words))

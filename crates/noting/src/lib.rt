@@ -1,4 +1,4 @@
-// The two words that an answer of the store's calls is noted in (document 01, "The book beside the store"): its number, and the first value that it hands back.
+// The words that an answer of the store's calls is noted in (document 01, "The book beside the store"): its number, and the values that it hands back.
 use asking::Answer;
 use rule::Done;
 use rule::Made;
@@ -7,64 +7,76 @@ ghost use mathlib.Core.Path.{_≡_};
 ghost use Prim.Native.Nat.{_+_, _*_, _≤_};
 ghost use lib.ListN.{length};
 ghost use lib.Seq.{sets};
-ghost use Rattle.rule.specs.Reply.{numberOf};
 ghost use Rattle.rule.specs.Answers.{doneReply, madeReply, saidReply};
 ghost use Rattle.asking.specs.Answer.{answerReply};
-ghost use Rattle.noting.specs.Noted.{noteWords, firstOf, noteOf};
+ghost use Rattle.noting.specs.Noted.{noteWords, noteOf, Tells};
 
 // The words of one answer.
-pub const NOTE: usize = 2;
+pub const NOTE: usize = 4;
 
-// The refusal's number, 0 where the call is accepted, and the value, 0 where there is none.
+// The refusal's number, 0 where the call is accepted, and the values, 0 where there are none.
 struct Words {
     number: u16,
-    value: u16,
+    first: u16,
+    second: u16,
+    third: u16,
 }
 
 fn refused(k: u8) -> Words
-    ensures { λ r. ⌜ (r .number ≡ k) × (r .value ≡ 0) ⌝ }
+    ensures { λ r. ⌜ (r .number ≡ k) × (r .first ≡ 0) × (r .second ≡ 0) × (r .third ≡ 0) ⌝ }
 {
     Words {
         number: k as u16,
-        value: 0,
+        first: 0,
+        second: 0,
+        third: 0,
     }
 }
 
-fn accepted(value: u16) -> Words
-    ensures { λ r. ⌜ (r .number ≡ 0) × (r .value ≡ value) ⌝ }
+fn accepted(first: u16, second: u16, third: u16) -> Words
+    ensures { λ r. ⌜ (r .number ≡ 0) × (r .first ≡ first) × (r .second ≡ second) × (r .third ≡ third) ⌝ }
 {
-    Words { number: 0, value }
+    Words {
+        number: 0,
+        first,
+        second,
+        third,
+    }
 }
 
 fn done(answer: Done) -> Words
-    ensures { λ r. ⌜ (r .number ≡ numberOf (doneReply answer)) × (r .value ≡ firstOf (doneReply answer)) ⌝ }
+    ensures { λ r. ⌜ Tells (r .number) (r .first) (r .second) (r .third) (doneReply answer) ⌝ }
 {
     match answer {
-        Done::Accepted => accepted(0),
+        Done::Accepted => accepted(0, 0, 0),
         Done::Refused(k) => refused(k),
     }
 }
 
 fn made(answer: Made) -> Words
-    ensures { λ r. ⌜ (r .number ≡ numberOf (madeReply answer)) × (r .value ≡ firstOf (madeReply answer)) ⌝ }
+    ensures { λ r. ⌜ Tells (r .number) (r .first) (r .second) (r .third) (madeReply answer) ⌝ }
 {
     match answer {
-        Made::Rule(node) => accepted(node.number),
+        Made::Rule(node) => accepted(node.number, 0, 0),
         Made::Refused(k) => refused(k),
     }
 }
 
 fn said(answer: Said) -> Words
-    ensures { λ r. ⌜ (r .number ≡ numberOf (saidReply answer)) × (r .value ≡ firstOf (saidReply answer)) ⌝ }
+    ensures { λ r. ⌜ Tells (r .number) (r .first) (r .second) (r .third) (saidReply answer) ⌝ }
 {
     match answer {
-        Said::Answer(a) => accepted(a as u16),
+        Said::Answer {
+            answer,
+            asked,
+            count,
+        } => accepted(answer as u16, asked, count as u16),
         Said::Refused(k) => refused(k),
     }
 }
 
 fn noted(answer: Answer) -> Words
-    ensures { λ r. ⌜ (r .number ≡ numberOf (answerReply answer)) × (r .value ≡ firstOf (answerReply answer)) ⌝ }
+    ensures { λ r. ⌜ Tells (r .number) (r .first) (r .second) (r .third) (answerReply answer) ⌝ }
 {
     match answer {
         Answer::Done(a) => done(a),
@@ -73,7 +85,7 @@ fn noted(answer: Answer) -> Words
     }
 }
 
-// Notes the answer of call k in its two words.
+// Notes the answer of call k in its words.
 pub fn note(answers: &mut [u16], k: usize, answer: Answer)
     requires { ⌜ k * noteWords + noteWords ≤ length (now answers) ⌝ }
     ensures { λ r. ⌜ now (answers .exit) ≡ sets (now (answers .entry)) (k * noteWords) (noteOf (answerReply answer)) ⌝ }
@@ -81,5 +93,7 @@ pub fn note(answers: &mut [u16], k: usize, answer: Answer)
     let words = noted(answer);
     let to = k * NOTE;
     answers[to] = words.number;
-    answers[to + 1] = words.value;
+    answers[to + 1] = words.first;
+    answers[to + 2] = words.second;
+    answers[to + 3] = words.third;
 }

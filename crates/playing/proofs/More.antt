@@ -6,7 +6,6 @@ use Prim.Native.Nat.{ℕ, zero, suc, _+_, _*_, _≤_}
 use native.Mathlib.Omega.{arith}
 use lib.ListN.{length, take, drop, length-append, length-take, length-drop, take-append-drop}
 use lib.Seq.{take-at, drop-at, drop-drop, sets, sets-eq}
-use Rattle.rule.specs.Reply.{numberOf}
 use Rattle.rule.specs.Calls.{State}
 use Rattle.rule.specs.History.{Call, Meets, Calls}
 use Rattle.store.specs.State.{stateOf}
@@ -16,7 +15,7 @@ use Rattle.asking.specs.Answer.{answerReply}
 use Rattle.asking.specs.Request.{askedBy, part}
 use Rattle.history.specs.Step.{callOf, Steps}
 use Rattle.coding.specs.Coded.{callWords, requestAt, givenAt, askedAt}
-use Rattle.noting.specs.Noted.{noteWords, firstOf, noteOf, notes}
+use Rattle.noting.specs.Noted.{noteWords, noteOf, notes}
 use Rattle.playing.specs.Played.{Coded, bytesAfter, Turns, CodedFrom, Plays}
 
 calls-more : (s : State) (c : List ℕ) (xs : List Call) (s′ : State) (d : List ℕ) (x : Call) → Calls s c xs s′ d → Meets s′ d x
@@ -37,23 +36,22 @@ coded-more w k next b (z ∷ zs) b′ x e (h, hs) y =
 
 notes-more : (xs : List Call) (x : Call) → notes (xs ++ (x ∷ [])) ≡ notes xs ++ noteOf (x .answer)
 notes-more [] x = refl
-notes-more (y ∷ ys) x = ap (λ (l : List ℕ). numberOf (y .answer) ∷ firstOf (y .answer) ∷ l) (notes-more ys x)
+notes-more (y ∷ ys) x = ap (λ (l : List ℕ). noteOf (y .answer) ++ l) (notes-more ys x)
 
-length-notes : (xs : List Call) → length (notes xs) ≡ length xs * 2
+length-notes : (xs : List Call) → length (notes xs) ≡ length xs * noteWords
 length-notes [] = refl
 length-notes (x ∷ xs) = omega (arith, length-notes xs)
 
--- two more, behind those that are written
-written-more : (ns a : List ℕ) (m u v : ℕ) → length ns ≡ m → m + 2 ≤ length a
-    → sets (ns ++ drop m a) m (u ∷ v ∷ []) ≡ (ns ++ (u ∷ v ∷ [])) ++ drop (m + 2) a
-written-more ns a m u v l h =
+-- more words, behind those that are written
+written-more : (ns a note : List ℕ) (m : ℕ) → length ns ≡ m → m + length note ≤ length a
+    → sets (ns ++ drop m a) m note ≡ (ns ++ note) ++ drop (m + length note) a
+written-more ns a note m l h =
     let all = ns ++ drop m a in
-    let fits : m + 2 ≤ length all = simp (length-append, length-drop) (omega arith) in
+    let fits : m + length note ≤ length all = simp (length-append, length-drop) (omega arith) in
     let front : take m all ≡ ns = take-at ns (drop m a) m l in
-    let behind : drop (m + 2) all ≡ drop (m + 2) a =
-    sym (drop-drop 2 m all) ∙ ap (λ (z : List ℕ). drop 2 z) (drop-at ns (drop m a) m l) ∙ drop-drop 2 m a in
-    sets-eq (u ∷ v ∷ []) all m fits ∙ ap (λ (z : List ℕ). (z ++ (u ∷ v ∷ [])) ++ drop (m + 2) all) front
-    ∙ ap (λ (z : List ℕ). (ns ++ (u ∷ v ∷ [])) ++ z) behind
+    let behind : drop (m + length note) all ≡ drop (m + length note) a =
+    sym (drop-drop (length note) m all) ∙ ap (λ (z : List ℕ). drop (length note) z) (drop-at ns (drop m a) m l) ∙ drop-drop (length note) m a in
+    sets-eq note all m fits ∙ ap (λ (z : List ℕ). (z ++ note) ++ drop (m + length note) all) front ∙ ap (λ (z : List ℕ). (ns ++ note) ++ z) behind
 
 -- ---- one call
 
@@ -91,12 +89,13 @@ pub plays-more : {w : List ℕ} {k : ℕ} {s s′ t : State} {c b a d b′ a′ 
     → Turns w k s′ d b′ a′ t e g h → k * noteWords + noteWords ≤ length a → Plays w (k + 1) s c b a t e g h
 plays-more {w} {k} {s} {s′} {t} {c} {b} {a} {d} {b′} {a′} {e} {g} {h} p q room =
     let x = q .call in
-    let at-end : length (notes (p .calls)) ≡ k * 2 = omega (arith, length-notes (p .calls), p .count) in
-    let more : (k + 1) * 2 ≡ k * 2 + 2 = omega arith in
-    let noted : h ≡ notes (p .calls ++ (x ∷ [])) ++ drop ((k + 1) * 2) a =
-    q .noted ∙ ap (λ (z : List ℕ). sets z (k * 2) (noteOf (x .answer))) (p .noted)
-    ∙ written-more (notes (p .calls)) a (k * 2) (numberOf (x .answer)) (firstOf (x .answer)) at-end room
-    ∙ ap (λ (z : List ℕ). z ++ drop (k * 2 + 2) a) (sym (notes-more (p .calls) x))
+    let at = k * noteWords in
+    let at-end : length (notes (p .calls)) ≡ at = omega (arith, length-notes (p .calls), p .count) in
+    let more : (k + 1) * noteWords ≡ at + noteWords = omega arith in
+    let noted : h ≡ notes (p .calls ++ (x ∷ [])) ++ drop ((k + 1) * noteWords) a =
+    q .noted ∙ ap (λ (z : List ℕ). sets z at (noteOf (x .answer))) (p .noted)
+    ∙ written-more (notes (p .calls)) a (noteOf (x .answer)) at at-end room
+    ∙ ap (λ (z : List ℕ). z ++ drop (at + noteWords) a) (sym (notes-more (p .calls) x))
     ∙ ap (λ (i : ℕ). notes (p .calls ++ (x ∷ [])) ++ drop i a) (sym more) in
     let coded : CodedFrom w 0 b (p .calls ++ (x ∷ [])) (bytesAfter b′ x) =
     coded-more w 0 k b (p .calls) b′ x (omega (arith, p .count)) (p .coded) (q .coded) in

@@ -1,15 +1,14 @@
 -- What the plain book is fed of a run: read off the words that code its calls and those that its answers stand in.
 -- Assumes nothing.
 use mathlib.Core.List.{List, [], _∷_}
-use Prim.Native.Nat.{ℕ, zero, suc, _+_, _*_}
-use lib.ListN.{getD}
+use Prim.Native.Nat.{ℕ, zero, suc, _+_}
 use Rattle.rule.specs.History.{Fed, Book, bookOf}
 use Rattle.coding.specs.Coded.{askedAt}
-use Rattle.noting.specs.Noted.{noteWords, replyBy}
+use Rattle.noting.specs.Noted.{noteAt, replyBy}
 
 -- what the book is fed of call k: what its words ask, and the answer that is noted for it
 abbrev pub fedAt : List ℕ → List ℕ → ℕ → Fed
-fedAt w a k = record { asked = askedAt w k; answer = replyBy (askedAt w k) (getD a (k * noteWords) 0) (getD a (k * noteWords + 1) 0) }
+fedAt w a k = record { asked = askedAt w k; answer = replyBy (askedAt w k) (noteAt a k) }
 
 -- of so many calls from call k on
 abbrev pub fedFrom : List ℕ → List ℕ → ℕ → ℕ → List Fed

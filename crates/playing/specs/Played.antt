@@ -30,7 +30,7 @@ pub record Turns (w : List ℕ) (k : ℕ) (s : State) (c b a : List ℕ) (s′ :
   pub state-is : s′ ≡ call .state
   pub cells-are : d ≡ call .cells
   pub bytes-are : b′ ≡ bytesAfter b call
-  -- its answer is noted in its two words
+  -- its answer is noted in its words
   pub noted : a′ ≡ sets a (k * noteWords) (noteOf (call .answer))
 
 -- ---- a list of them

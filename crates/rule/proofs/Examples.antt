@@ -7,7 +7,9 @@ use Rattle.rule.specs.Tests.{each, keep, same, among}
 use Rattle.rule.specs.Table.{cofactor, depends, fixings}
 use Rattle.rule.specs.Level.{distinct, levelNodes, nodesFrom}
 use Rattle.rule.specs.Order.{times, eachOnce, restZero, fitOrder, askedBefore, picks, gather, ordersOf, firstLeast, leastOf, rank, packed}
+use Rattle.rule.specs.Sets.{flagSet}
 use Rattle.rule.specs.Cells.{fitCells, flagAt, lowAt, highAt, recordCells}
+use Rattle.rule.specs.Walk.{step, walkIn, passedIn}
 use Rattle.rule.specs.Sound.{flagsBelow, childrenDiffer, childrenSmaller, asksLater, childrenLater, sameRecord, noneEqual, restClear, laid, shaped, sound}
 use Rattle.rule.specs.Diagram.{reachIn, allReached, diagram}
 use Rattle.rule.specs.Files.{unless, readMap, readFlags, readOrder, readLabel, readRecords, readEnd, reading, fileOf}
@@ -16,5 +18,5 @@ use Rattle.rule.specs.Listing.{flagsFrom, numbers, flagLines, listed, li
 use Rattle.rule.specs.Examples.{holds, examples}
 
 pub examples-hold : each holds examples ≡ true
-unfolding bit setBit from each keep same among cofactor depends fixings distinct levelNodes nodesFrom times eachOnce restZero fitOrder askedBefore picks gather ordersOf firstLeast leastOf rank packed fitCells flagAt lowAt highAt flagsBelow childrenDiffer childrenSmaller asksLater childrenLater sameRecord noneEqual restClear laid shaped sound reachIn allReached diagram unless readMap readFlags readOrder readLabel readRecords recordCells readEnd reading fileOf text decimalIn readLine flagsFrom numbers flagLines listed listing holds examples
+unfolding bit setBit from each keep same among cofactor depends fixings distinct levelNodes nodesFrom times eachOnce restZero fitOrder askedBefore picks gather ordersOf firstLeast leastOf rank packed fitCells flagAt lowAt highAt flagSet step walkIn passedIn flagsBelow childrenDiffer childrenSmaller asksLater childrenLater sameRecord noneEqual restClear laid shaped sound reachIn allReached diagram unless readMap readFlags readOrder readLabel readRecords recordCells readEnd reading fileOf text decimalIn readLine flagsFrom numbers flagLines listed listing holds examples
 examples-hold = refl

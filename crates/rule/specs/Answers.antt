@@ -46,10 +46,10 @@ abbrev pub madeReply : Made → Reply
 madeReply (the-made.Rule node) = accepted (node .number ∷ [])
 madeReply (the-made.Refused k) = refused k (0 ∷ [])
 
--- walk: the answer
+-- walk: the answer, the set of the flags asked, and their number
 abbrev pub saidReply : Said → Reply
-saidReply (the-said.Answer a) = accepted (a ∷ [])
-saidReply (the-said.Refused k) = refused k (0 ∷ [])
+saidReply (the-said.Answer answer asked count) = accepted (answer ∷ asked ∷ count ∷ [])
+saidReply (the-said.Refused k) = refused k (0 ∷ 0 ∷ 0 ∷ [])
 
 -- read: n, the record count, the root, and the order's ten places
 abbrev pub loadedReply : Order → Loaded → Reply

@@ -51,7 +51,7 @@ pub record Asks (n : ℕ) (order c : List ℕ) (used : ℕ) (q : Query) (lent : 
   pub answer : r ≡ reply (refusal (queryRows n order c used q lent)) (answered n c q)
   pub bytes-are : after ≡ lentAfter (refusal (queryRows n order c used q lent)) n c q lent
 
--- "A walk .. hands back the answer": for one row; it is lent no bytes
+-- "A walk .. hands back the answer", and "beside its answer, a ten-bit set of the flags asked and their number" (request 2): for one row; it is lent no bytes
 abbrev pub Walks : ℕ → List ℕ → List ℕ → ℕ → ℕ → ℕ → Reply → Type 0
 Walks n order c used m row r = Asks n order c used (walking m row) [] r []
 

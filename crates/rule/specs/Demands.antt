@@ -1,6 +1,6 @@
--- Demands 2 and 3, each as one statement over the outcomes of Calls.antt and Files.antt, and two more: which order pack takes of several, and that what the
--- writer writes the reader reads. (Demand 1 is the contracts themselves: no call has a condition, each gives its number and every lent buffer, and the check
--- proves that it reads, writes and ends within what it was given.)
+-- Demands 2 and 3, each as one statement over the outcomes of Calls.antt and Files.antt, and three more: what holds of the set and the number that a walk hands
+-- back, which order pack takes of several, and that what the writer writes the reader reads. (Demand 1 is the contracts themselves: no call has a condition, each
+-- gives its number and every lent buffer, and the check proves that it reads, writes and ends within what it was given.)
 -- Assumes nothing.
 use mathlib.Core.Path.{_≡_}
 use mathlib.Core.Logic.{_≢_, _↔_}
@@ -9,17 +9,19 @@ use mathlib.Core.List.{List, [], _∷_, List·Memᴰ}
 use mathlib.Core.Option.{some}
 use Prim.Native.Nat.{ℕ, _+_, _^_, _≤_, _<_}
 use lib.ListN.{length, getD, take}
-use Rattle.rule.specs.Table.{fitLength, fitRows}
+use Rattle.rule.specs.Bits.{bit}
+use Rattle.rule.specs.Table.{fitLength, fitRows, depends, restrict}
 use Rattle.rule.specs.Level.{levelCount, size}
 use Rattle.rule.specs.Order.{places, flags, fitOrder, askedBefore, Lex}
+use Rattle.rule.specs.Sets.{setSize}
 use Rattle.rule.specs.Cells.{fitCells, room, flagAt, lowAt, highAt, laidIn, recordsIn}
-use Rattle.rule.specs.Walk.{tableOf}
+use Rattle.rule.specs.Walk.{recordsPassed, flagsAsked, tableOf}
 use Rattle.rule.specs.Sound.{sound}
 use Rattle.rule.specs.Diagram.{diagram, asking}
 use Rattle.rule.specs.Reduced.{DrawnAs}
 use Rattle.rule.specs.Results.{Making, madeIn, needed}
-use Rattle.rule.specs.Reply.{Reply, accepted, numberOf, Accepted}
-use Rattle.rule.specs.Calls.{State, Build, Check, Tabulates, Tabulate, Walk, Make, Pack}
+use Rattle.rule.specs.Reply.{Reply, accepted, refused, numberOf, Accepted}
+use Rattle.rule.specs.Calls.{State, Build, Check, Walks, Tabulates, Tabulate, Walk, Make, Pack}
 use Rattle.rule.specs.Files.{bytesOf, reading, labelOf, Reads, Writes}
 use Rattle.rule.specs.History.{Call, Calls, Fed, feed, Opens, BeginsOpen, Book, inBook, enter, bookOf}
 
@@ -160,6 +162,40 @@ pub record AfterList (s : State) (c : List ℕ) (b : Book) (es : List Fed) : Typ
 abbrev pub Demand3 : Type 0
 Demand3 =
     (first s : State) (cells c : List ℕ) (b : Book) (xs : List Call) → Calls first cells xs s c → BeginsOpen (feed xs) → AfterList s c b (feed xs)
+
+-- ---- the flags asked (request 2)
+
+-- two rows have the same values of the flags of a set
+abbrev pub RowsAgreeOn : ℕ → ℕ → ℕ → Type 0
+RowsAgreeOn set row other = (v : ℕ) → bit set v ≡ 1 → bit other v ≡ bit row v
+
+-- what holds of the values that a walk from node m hands back for a row: its answer, the set of the flags asked, and their number
+pub record WalkReport (n : ℕ) (order c : List ℕ) (used m row answer set count : ℕ) : Type 0 where
+  -- "Answers are as before."
+  pub answer-is : answer ≡ getD (tableOf n c m) row 0
+  -- "a ten-bit set of the flags asked": the flag of each record passed, and no other, so that bits from n on are 0
+  pub flags-are : (v : ℕ) → (bit set v ≡ 1) ↔ List·Memᴰ v (flagsAsked c m row)
+  pub below : set < 2 ^ n
+  -- "and their number": no flag is asked twice
+  pub set-size : count ≡ setSize set
+  -- "the number is that of the records passed, and is at most n"
+  pub records : count ≡ length (recordsPassed c m row)
+  pub most : count ≤ n
+  -- "which flags an answer rested on": for any other row with the same values of them the walk is accepted with the same answer, set and number
+  pub rested : (other : ℕ) (r : Reply) → other < 2 ^ n → RowsAgreeOn set row other → Walks n order c used m other r
+      → Gives r (answer ∷ set ∷ count ∷ [])
+  -- the flags asked depend on the rule, the order and the row alone: v is one of them exactly where the rule, with the flags before v fixed as in
+  -- the row, depends on v
+  pub by-rule : (v : ℕ) → (bit set v ≡ 1) ↔ ((v < n) × (depends v (restrict (askedBefore v (flags n order)) row (tableOf n c m)) ≡ true))
+
+-- of a walk of a single diagram, and so of a store's: its `Walk` has this relation in its field `asks`
+pub record FlagsReported : Type 0 where
+  -- an accepted walk hands back three values
+  pub accepts : (n used m row : ℕ) (order c : List ℕ) (r : Reply) → Walks n order c used m row r → Accepted r
+      → (answer : ℕ) × (set : ℕ) × (count : ℕ) × Gives r (answer ∷ set ∷ count ∷ []) × WalkReport n order c used m row answer set count
+  -- a refused one its number and three zeros
+  pub refuses : (n used m row : ℕ) (order c : List ℕ) (r : Reply) → Walks n order c used m row r → numberOf r ≢ 0
+      → r ≡ refused (numberOf r) (0 ∷ 0 ∷ 0 ∷ [])
 
 -- ---- the packed order
 

@@ -3,16 +3,19 @@
 -- Assumes nothing.
 use mathlib.Core.Bool.{Bool, _&&_}
 use mathlib.Core.List.{List, [], _∷_}
-use Prim.Native.Nat.{ℕ}
+use Prim.Native.Nat.{ℕ, _+_}
 use Prim.Native.String.{String}
 use lib.Dec.{eqb}
-use lib.ListN.{replicate}
+use lib.ListN.{length, replicate}
 use Rattle.rule.specs.Tests.{each, same}
 use Rattle.rule.specs.Level.{size}
-use Rattle.rule.specs.Order.{rising, orders, packed}
-use Rattle.rule.specs.Results.{rootBy}
-use Rattle.rule.specs.Cells.{width}
-use Rattle.rule.specs.Refusals.{refusal}
+use Rattle.rule.specs.Order.{inPlaces, rising, orders, packed}
+use Rattle.rule.specs.Results.{rootBy, walking, answered}
+use Rattle.rule.specs.Cells.{width, RecordValues, recordCells}
+use Rattle.rule.specs.Walk.{tableOf}
+use Rattle.rule.specs.Diagram.{diagram}
+use Rattle.rule.specs.Refusals.{refusal, walkRows}
+use Rattle.rule.specs.Reply.{Reply, reply, numberOf, valuesOf}
 use Rattle.rule.specs.Files.{reading, readNumber, readValues, writeRows}
 use Rattle.rule.specs.Text.{text}
 use Rattle.rule.specs.Listing.{flagsOf, rowsOf, askingPacked, listing}
@@ -43,12 +46,32 @@ pub data Example : Type 0 where
   refusedFile : List ℕ → ℕ → Example
   -- with a label of so many bytes, and lent no byte for the file, the writer refuses the rule "no" of no flags under this number
   refusedLabel : ℕ → ℕ → Example
+  -- the records are the diagram of the table under the order
+  draws : String → String → List RecordValues → Example
+  -- in records under this order the walk from the node, for the row, has this number and these values
+  walks : String → List RecordValues → ℕ → ℕ → ℕ → List ℕ → Example
   -- the listing of the table's line is this text
   lists : String → String → Example
 
 -- the cells that a file's records are read into
 abbrev pub lentCells : List ℕ
 lentCells = replicate width 0
+
+abbrev pub branch : ℕ → ℕ → ℕ → RecordValues
+branch flag low high = record { flag = flag; low = low; high = high }
+
+-- yes where at least two of three flags are 1
+abbrev pub majority : List RecordValues
+majority = branch 2 0 1 ∷ branch 1 0 2 ∷ branch 1 2 1 ∷ branch 0 3 4 ∷ []
+
+-- yes where flags 0 and 2 are 1, or 1 and 3: the listing's example
+abbrev pub eitherPair : List RecordValues
+eitherPair = branch 3 0 1 ∷ branch 1 0 2 ∷ branch 2 3 1 ∷ branch 0 3 4 ∷ []
+
+-- what a walk in just these records hands back, by the definitions that its contract has
+abbrev pub walkReply : List ℕ → List RecordValues → ℕ → ℕ → Reply
+walkReply o rs m row =
+    reply (refusal (walkRows (length o) (inPlaces o) (recordCells rs) (length rs) m row)) (answered (length o) (recordCells rs) (walking m row))
 
 unfoldable pub holds : Example → Bool
 holds (nodes t k) = eqb (size (packedOf t) (digits t)) k
@@ -61,6 +84,11 @@ holds (file f n k m) =
     eqb (readNumber (reading lentCells f)) 0 && same (readValues f (reading lentCells f)) (n ∷ k ∷ m ∷ rising n)
 holds (refusedFile f k) = eqb (readNumber (reading lentCells f)) k
 holds (refusedLabel many k) = eqb (refusal (writeRows 0 (rising 0) [] 0 0 (replicate many 0x41) [])) k
+holds (draws t o rs) =
+    diagram (flagsOf (digits t)) (inPlaces (digits o)) (recordCells rs) (length rs) (length rs + 1)
+    && same (tableOf (flagsOf (digits t)) (recordCells rs) (length rs + 1)) (digits t)
+holds (walks o rs m row k values) =
+    eqb (numberOf (walkReply (digits o) rs m row)) k && same (valuesOf (walkReply (digits o) rs m row)) values
 holds (lists t s) = same (listing (text t)) (text s)
 
 unfoldable pub examples : List Example
@@ -92,4 +120,20 @@ examples =
     ∷ file (0x04 ∷ 0x1F ∷ replicate 31 0x41) 0 0 0
     ∷ refusedLabel 32 13
     ∷ refusedLabel 31 10
+    -- request 2: where flags 0 and 1 are alike they settle it, and flag 2, on which the rule depends, is not asked; flags of value 0 are asked as those of
+    -- value 1 are. From inner nodes, and from end nodes, which ask none; row 8 is refused
+    ∷ draws "00010111" "012" majority
+    ∷ walks "012" majority 5 0 0 (0 ∷ 3 ∷ 2 ∷ [])
+    ∷ walks "012" majority 5 7 0 (1 ∷ 3 ∷ 2 ∷ [])
+    ∷ walks "012" majority 5 2 0 (0 ∷ 7 ∷ 3 ∷ [])
+    ∷ walks "012" majority 5 5 0 (1 ∷ 7 ∷ 3 ∷ [])
+    ∷ walks "012" majority 4 4 0 (1 ∷ 6 ∷ 2 ∷ [])
+    ∷ walks "012" majority 2 4 0 (1 ∷ 4 ∷ 1 ∷ [])
+    ∷ walks "012" majority 1 0 0 (1 ∷ 0 ∷ 0 ∷ [])
+    ∷ walks "012" majority 0 7 0 (0 ∷ 0 ∷ 0 ∷ [])
+    ∷ walks "012" majority 5 8 9 (0 ∷ 0 ∷ 0 ∷ [])
+    -- a bit is that of the flag, not of its place in the order, and a flag between two that are asked may be left out
+    ∷ draws "0000010100110111" "0213" eitherPair
+    ∷ walks "0213" eitherPair 5 10 0 (1 ∷ 11 ∷ 3 ∷ [])
+    ∷ walks "0213" eitherPair 5 5 0 (1 ∷ 5 ∷ 2 ∷ [])
     ∷ []

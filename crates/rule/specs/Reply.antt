@@ -2,6 +2,7 @@
 -- Assumes nothing.
 use mathlib.Core.List.{List, map}
 use Prim.Native.Nat.{ℕ, zero, suc}
+use lib.ListN.{getD}
 
 -- what a call hands back, as the paper counts it: accepted with its values, or refused with its number and what stands in the values' place
 pub data Reply : Type 0 where
@@ -17,6 +18,15 @@ reply (suc k) values = refused (suc k) (map (λ v. 0) values)
 abbrev pub numberOf : Reply → ℕ
 numberOf (accepted values) = 0
 numberOf (refused k values) = k
+
+-- the values of a reply, or what stands in their place
+abbrev pub valuesOf : Reply → List ℕ
+valuesOf (accepted values) = values
+valuesOf (refused k values) = values
+
+-- its value at a place, 0 where it has none there
+abbrev pub valueAt : Reply → ℕ → ℕ
+valueAt r i = getD (valuesOf r) i 0
 
 abbrev pub Accepted : Reply → Type 0
 Accepted (accepted values) = Unit {0}

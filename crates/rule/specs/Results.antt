@@ -1,5 +1,5 @@
 -- The calls that make a rule, the tables that they make, and the records that a result needs; the calls that make none, and what they hand back (document 01,
--- "The store", "The book beside the store" and, of a root, "Tables, orders, nodes").
+-- "The store", "The book beside the store" and, of a root, "Tables, orders, nodes"; what a walk hands back: request 2).
 -- Assumes nothing.
 use mathlib.Core.Bool.{true, false, not, cond}
 use mathlib.Core.List.{List, [], _∷_, map}
@@ -12,7 +12,7 @@ use Rattle.rule.specs.Table.{tabled, cofactor}
 use Rattle.rule.specs.Level.{nodesOf}
 use Rattle.rule.specs.Order.{flags}
 use Rattle.rule.specs.Cells.{room}
-use Rattle.rule.specs.Walk.{walk, tableOf}
+use Rattle.rule.specs.Walk.{walkValues, tableOf}
 
 -- "the constant"
 abbrev pub constantTable : ℕ → ℕ → List ℕ
@@ -110,4 +110,4 @@ pub data Query : Type 0 where
 -- the values that it hands back
 abbrev pub answered : ℕ → List ℕ → Query → List ℕ
 answered n c (tabulating m) = []
-answered n c (walking m row) = walk c m row ∷ []
+answered n c (walking m row) = walkValues c m row

@@ -1,12 +1,18 @@
--- The fixed list of sets that packing goes through (document 01, "Packing"). A set of flags is a number: bit v says that flag v is in it.
+-- Sets of flags (request 2), and the fixed list of them that packing goes through (document 01, "Packing"). A set of flags is a number: bit v says that flag v is
+-- in it.
 -- Assumes nothing.
 use mathlib.Core.List.{List, [], _∷_, _++_}
 use Prim.Native.Nat.{ℕ, zero, suc, _+_, _-_, _^_}
 use lib.Count.{onesIn}
 use lib.Dec.{eqb}
 use lib.ListN.{getD}
-use Rattle.rule.specs.Bits.{below}
+use Rattle.rule.specs.Bits.{setBit, below}
 use Rattle.rule.specs.Tests.{keep}
+
+-- "a ten-bit set of the flags" of a list: bit v is 1 where v is one of them, and any other bit 0
+unfoldable pub flagSet : List ℕ → ℕ
+flagSet [] = 0
+flagSet (v ∷ vs) = setBit (flagSet vs) v 1
 
 -- "the size of a set is the number of ones in its ten-bit number"
 abbrev pub setSize : ℕ → ℕ

@@ -27,9 +27,9 @@ pub enum Made {
     Refused(u8),
 }
 
-// A walk's answer, 0 or 1.
+// Walk: the answer, 0 or 1, the set of the flags asked (bit v for flag v), and their number.
 pub enum Said {
-    Answer(u8),
+    Answer { answer: u8, asked: u16, count: u8 },
     Refused(u8),
 }
 

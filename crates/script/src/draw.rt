@@ -12,6 +12,7 @@ use rule::Said;
 use words::print;
 use words::read::digits;
 use words::read::order;
+ghost use Prim.Native.Nat.{_<_};
 
 // How many used records ask a flag.
 fn asking(cells: &[u16], used: u16, flag: u16) -> u16 {
@@ -72,7 +73,11 @@ pub fn agrees(
 // What a walk says of a row: its answer, or 100 and the refusal's number.
 fn said(n: u8, order: Order, cells: &[u16], used: u16, root: Node, row: u16) -> u64 {
     match walking::walk(n, order, cells, used, root, row) {
-        Said::Answer(a) => print::wide(a),
+        Said::Answer {
+            answer,
+            asked,
+            count,
+        } => print::wide(answer),
         Said::Refused(k) => 100 + (k as u64),
     }
 }
@@ -92,6 +97,37 @@ fn walks(n: u8, table: &[u8], order: Order, cells: &[u16], used: u16, root: Node
         row += 1;
     }
     true
+}
+
+// The sum so far 31 times, and with it the set of the flags that a walk asked, 1,024 times their number and 7, modulo 65,521.
+fn with_walk(sum: u64, said: Said) -> u64
+    requires { ⌜ sum < 65521 ⌝ }
+    ensures { λ r. ⌜ r < 65521 ⌝ }
+{
+    match said {
+        Said::Answer {
+            answer,
+            asked,
+            count,
+        } => (sum * 31 + asked as u64 + count as u64 * 1024 + 7) % 65521,
+        Said::Refused(k) => sum,
+    }
+}
+
+// This sum over the walks of so many rows.
+fn asked_sum(n: u8, order: Order, cells: &[u16], used: u16, root: Node, rows: usize) -> u64
+    ensures { λ r. ⌜ r < 65521 ⌝ }
+{
+    let mut sum: u64 = 0;
+    let mut row: u16 = 0;
+    while row < 2048 {
+        if rows <= row as usize {
+            return sum;
+        }
+        sum = with_walk(sum, walking::walk(n, order, cells, used, root, row));
+        row += 1;
+    }
+    sum
 }
 
 pub fn flag_counts(n: u8, cells: &[u16], used: u16) {
@@ -137,6 +173,8 @@ pub fn draw(text: &[u8], at: usize) {
         Drawn::Diagram { nodes, root } => {
             print::number(b"nodes", nodes);
             flag_counts(n, &cells, nodes);
+            let sum = asked_sum(n, order, &cells, nodes, root, count);
+            print::number(b" walks", sum as u16);
         }
     }
 }

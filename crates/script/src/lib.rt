@@ -1,6 +1,6 @@
 // A small language for test programs over single diagrams: a line a call, and a line of output for each. Words stand one blank apart.
 //
-//     d TABLE ORDER                        draw the table, check, tabulate and walk it: its nodes, and those asking each flag
+//     d TABLE ORDER                        draw the table, check, tabulate and walk it: its nodes, those asking each flag, and a sum over what walks ask
 //     b N CELLS TABLE ORDER                build into so many lent cells, with 7 in each
 //     c N ORDER USED ROOT CELL CELL ..     check
 //     w N ORDER USED NODE ROW CELL ..      walk

@@ -117,7 +117,15 @@ pub fn walk(text: &[u8], at: usize) {
         row.value,
     );
     match said {
-        Said::Answer(a) => print::number(b"answer", a as u16),
+        Said::Answer {
+            answer,
+            asked,
+            count,
+        } => {
+            print::number(b"answer", answer as u16);
+            print::number(b" asked", asked);
+            print::number(b" number", count as u16);
+        }
         Said::Refused(k) => print::refused(k),
     }
 }

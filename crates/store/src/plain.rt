@@ -39,7 +39,7 @@ impl Store {
         }
     }
 
-    // Walk: the answer of a rule in a row; or why there is none: 1, 4, 5, 6, 7, then 9.
+    // Walk: the answer of a rule in a row, the set of the flags asked and their number; or why there is none: 1, 4, 5, 6, 7, then 9.
     pub fn walk(self, cells: &[u16], rule: Node, row: u16) -> Walked
         ensures { λ r. ⌜ Walk (stateOf self) (now (cells .entry)) (rule .number) row (saidReply (r .answer)) (stateOf (r .store)) ⌝ }
     {

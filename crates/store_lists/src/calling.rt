@@ -24,7 +24,7 @@ const JUNK: u8 = 9;
 struct Reached {
     store: Store,
     number: u16,
-    value: u16,
+    values: [u16; 3],
 }
 
 // The call that the words code, made with these bytes.
@@ -35,7 +35,7 @@ fn told(s: Session, words: &[u16; CALL], cells: &mut [u16], bytes: &mut [u8; BYT
     Reached {
         store,
         number: answers[0],
-        value: answers[1],
+        values: [answers[1], answers[2], answers[3]],
     }
 }
 
@@ -139,7 +139,7 @@ fn make(s: Session, text: &[u8], cells: &mut [u16], command: u8) -> Session {
         print::number(b"refused", number);
         return s.counted(store, NONE, false);
     }
-    let node = told.value;
+    let node = told.values[0];
     let after = s.counted(store, node, is_inner(s, node, store.used));
     print::text(b"rule ");
     after.print_node(node);
@@ -192,7 +192,10 @@ fn walk(s: Session, text: &[u8], cells: &mut [u16]) -> Session {
     let told = told_alone(s, &words, cells);
     let number = told.number;
     if number == 0 {
-        print::number(b"answer", told.value);
+        let values = told.values;
+        print::number(b"answer", values[0]);
+        print::number(b" asked", values[1]);
+        print::number(b" number", values[2]);
     } else {
         print::number(b"refused", number);
     }

@@ -56,7 +56,7 @@ module _ {n used : ℕ} {order c : List ℕ} (s : Shaped n order c used) (o : Or
   -- ---- one flag is fixed
 
   -- a node whose level is not before that of v asks a later flag and stays, or asks v
-  child-cases : (v m : ℕ) → m ≤ used + 1 → v < n → level (flags n order) v ≤ levelOf n order c m
+  pub child-cases : (v m : ℕ) → m ≤ used + 1 → v < n → level (flags n order) v ≤ levelOf n order c m
       → ((level (flags n order) v < levelOf n order c m) × ((b : ℕ) → child c v b m ≡ m))
       ⊎ ((k : ℕ) × (k < used) × (m ≡ k + 2) × (flagAt c k ≡ v) × ((b : ℕ) → child c v b m ≡ childAt c k b))
   child-cases v m h hv l =

@@ -18,11 +18,11 @@ use Rattle.theory.proofs.Orders.{order-length}
 
 -- ---- the flags before v
 
-asked-here : (u v : ℕ) (o : List ℕ) → u ≡ v → askedBefore v (u ∷ o) ≡ []
+pub asked-here : (u v : ℕ) (o : List ℕ) → u ≡ v → askedBefore v (u ∷ o) ≡ []
 unfolding askedBefore
 asked-here u v o e = rw (eq-eqb u v e)
 
-asked-there : (u v : ℕ) (o : List ℕ) → u ≢ v → askedBefore v (u ∷ o) ≡ u ∷ askedBefore v o
+pub asked-there : (u v : ℕ) (o : List ℕ) → u ≢ v → askedBefore v (u ∷ o) ≡ u ∷ askedBefore v o
 unfolding askedBefore
 asked-there u v o d = rw (ne-eqb u v d)
 

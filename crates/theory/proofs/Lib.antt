@@ -6,6 +6,7 @@ pub mod Least
 pub mod Distinct
 pub mod Cofactor
 pub mod Friedman
+pub mod FlagSet
 pub mod Dynamic
 pub mod Sets
 pub mod Packed
@@ -22,6 +23,7 @@ pub mod Canonical
 pub mod Reach
 pub mod Reduced
 pub mod Descents
+pub mod Asked
 pub mod Counting
 pub mod Needed
 pub mod Growth

@@ -88,29 +88,34 @@ module _ {c : List ℕ} {used : ℕ} (s : Smaller c used) where
   step-lt : (k row : ℕ) → k < used → step c k row < k + 2
   step-lt k row h = step-is c k row (λ (m : ℕ). m < k + 2) (s .low k h) (s .high k h)
 
-  -- more steps than the node's number change nothing
-  walk-enough : (a b m row : ℕ) → m ≤ a → m ≤ b → m ≤ used + 1 → walkIn a c m row ≡ walkIn b c m row
-  walk-enough zero b m row p q h = walk-stop c row 0 m (omega arith) ∙ sym (walk-stop c row b m (omega arith))
-  walk-enough (suc a) zero m row p q h = walk-stop c row (suc a) m (omega arith) ∙ sym (walk-stop c row 0 m (omega arith))
-  walk-enough (suc a) (suc b) m row p q h =
-      elim (node m) [
-        | inl l ↦ walk-stop c row (suc a) m l ∙ sym (walk-stop c row (suc b) m l)
-        | inr (k, e) ↦
-            let l = step-lt k row (omega arith) in
-            subst (λ (x : ℕ). walkIn (suc a) c x row ≡ walkIn (suc b) c x row) (sym e)
-            (walk-step c row a k
-            ∙ walk-enough a b (step c k row) row (omega arith) (omega arith) (omega arith)
-            ∙ sym (walk-step c row b k))
-      ]
+  -- what goes down from node m in at most so many steps: it stops at an end node, and at a record it goes on from the child
+  module _ {A : Type 0} (row : ℕ) (f : ℕ → ℕ → A) (ends : ℕ → A) (on : ℕ → A → A) (stop : (a m : ℕ) → m < 2 → f a m ≡ ends m)
+      (next : (a k : ℕ) → f (suc a) (k + 2) ≡ on k (f a (step c k row))) where
+    -- more steps than the node's number change nothing
+    enough : (a b m : ℕ) → m ≤ a → m ≤ b → m ≤ used + 1 → f a m ≡ f b m
+    enough zero b m p q h = stop 0 m (omega arith) ∙ sym (stop b m (omega arith))
+    enough (suc a) zero m p q h = stop (suc a) m (omega arith) ∙ sym (stop 0 m (omega arith))
+    enough (suc a) (suc b) m p q h =
+        elim (node m) [
+          | inl l ↦ stop (suc a) m l ∙ sym (stop (suc b) m l)
+          | inr (k, e) ↦
+              let l = step-lt k row (omega arith) in
+              subst (λ (x : ℕ). f (suc a) x ≡ f (suc b) x) (sym e)
+              (next a k ∙ ap (on k) (enough a b (step c k row) (omega arith) (omega arith) (omega arith)) ∙ sym (next b k))
+        ]
+
+    -- so of a record it comes to what it does of the child
+    pub at-record : (k : ℕ) → k < used → f (k + 2) (k + 2) ≡ on k (f (step c k row) (step c k row))
+    at-record k h =
+        let l = step-lt k row h in
+        let e : k + 2 ≡ suc (k + 1) = omega arith in
+        ap (λ (x : ℕ). f x (k + 2)) e
+        ∙ next (k + 1) k
+        ∙ ap (on k) (enough (k + 1) (step c k row) (step c k row) (omega arith) (le-refl _) (omega arith))
 
   -- a walk goes on from a record to a child
   pub walk-record : (k row : ℕ) → k < used → walk c (k + 2) row ≡ walk c (step c k row) row
-  walk-record k row h =
-      let l = step-lt k row h in
-      let e : k + 2 ≡ suc (k + 1) = omega arith in
-      ap (λ (x : ℕ). walkIn x c (k + 2) row) e
-      ∙ walk-step c row (k + 1) k
-      ∙ walk-enough (k + 1) (step c k row) (step c k row) row (omega arith) (le-refl _) (omega arith)
+  walk-record k row = at-record row (λ (a m : ℕ). walkIn a c m row) (λ (m : ℕ). m) (λ (k m : ℕ). m) (walk-stop c row) (walk-step c row) k
 
   -- and comes to an end node
   pub walk-lt : (m row : ℕ) → m ≤ used + 1 → walk c m row < 2

@@ -9,12 +9,15 @@ use lib.ListN.{length, take}
 use lib.Pow.{pow-pos}
 use Rattle.rule.specs.Table.{fitLength}
 use Rattle.rule.specs.Order.{flags}
-use Rattle.rule.specs.Walk.{walk, tableOf}
+use Rattle.rule.specs.Sets.{flagSet}
+use Rattle.rule.specs.Walk.{walk, flagsAsked, walkValues, tableOf}
 use Rattle.rule.specs.Refusals.{refusal, node, rowArgument, tabulateRows}
 use Rattle.rule.specs.Reply.{accepted, refused, reply, leaves}
 use Rattle.theory.proofs.Refused.{refused-more, refused-reply}
 use Rattle.theory.proofs.Sound.{sound-shape}
+use Rattle.theory.proofs.Orders.{fit-order-is}
 use Rattle.theory.proofs.Walks.{smaller, walk-lt}
+use Rattle.theory.proofs.Asked.{asked-most}
 use Rattle.checking.proofs.Refused.{cellRows, Taken}
 use Rattle.checking.proofs.Parts.{fit-room, sound-room}
 use Rattle.tabulating.specs.Fill.{Filling, filled}
@@ -33,30 +36,35 @@ module _ {n used : ℕ} {o c : List ℕ} (t : Taken n o c used) where
       let s = sound-shape n o c used (t .is-sound) in
       record { fits = s .fits; flags = λ k l. omega (arith, s .flag k l, t .few); smaller = smaller s; node = h }
 
-  -- a walk's answer is an end node
+  -- a walk's answer is an end node, and it asks at most n flags
   pub says-lt : {x : ℕ} (m row : ℕ) → x ≡ walk c m row → m ≤ used + 1 → x < 2
   says-lt m row e h = omega (arith, e, walk-lt (walkable h .smaller) m row h)
+
+  pub asks-le : {x : ℕ} (m row : ℕ) → x ≡ length (flagsAsked c m row) → m ≤ used + 1 → x ≤ 10
+  asks-le m row e h = omega (arith, e, t .few, asked-most (sound-shape n o c used (t .is-sound)) (fit-order-is n o (t .ordered)) m h row)
 
 -- ---- walk
 
 module _ (n : ℕ) (o c : List ℕ) (used m row : ℕ) where
-  pub walk-refused : {k : ℕ} → k ≡ refusal (cellRows n o c used) → (k ≡ 0 → ⊥) → Walks n o c used m row (refused k (0 ∷ []))
+  pub walk-refused : {k : ℕ} → k ≡ refusal (cellRows n o c used) → (k ≡ 0 → ⊥) → Walks n o c used m row (refused k (0 ∷ 0 ∷ 0 ∷ []))
   walk-refused {k} e d =
       record {
-        answer = refused-reply k (walk c m row ∷ []) d
-            ∙ ap (λ i. reply i (walk c m row ∷ [])) (e ∙ refused-more (cellRows n o c used) (node used m ∷ rowArgument n row ∷ []) (λ f. d (e ∙ f)));
+        answer = refused-reply k (walkValues c m row) d
+            ∙ ap (λ i. reply i (walkValues c m row)) (e ∙ refused-more (cellRows n o c used) (node used m ∷ rowArgument n row ∷ []) (λ f. d (e ∙ f)));
         bytes-are = refl;
       }
 
   module _ (t : Taken n o c used) where
-    pub walk-far : used + 1 < m → Walks n o c used m row (refused 7 (0 ∷ []))
+    pub walk-far : used + 1 < m → Walks n o c used m row (refused 7 (0 ∷ 0 ∷ 0 ∷ []))
     walk-far h = record { answer = rw (le-ltb _ _ (t .few), t .ordered, t .lent, t .is-sound, lt-ltb (used + 1) m h); bytes-are = refl }
 
-    pub walk-no-row : m ≤ used + 1 → 2 ^ n ≤ row → Walks n o c used m row (refused 9 (0 ∷ []))
+    pub walk-no-row : m ≤ used + 1 → 2 ^ n ≤ row → Walks n o c used m row (refused 9 (0 ∷ 0 ∷ 0 ∷ []))
     walk-no-row h l = record { answer = rw (le-ltb _ _ (t .few), t .ordered, t .lent, t .is-sound, le-ltb (used + 1) m h, le-leb (2 ^ n) row l); bytes-are = refl }
 
-    pub walk-says : m ≤ used + 1 → row < 2 ^ n → {x : ℕ} → x ≡ walk c m row → Walks n o c used m row (accepted (x ∷ []))
-    walk-says h l e = record { answer = rw (le-ltb _ _ (t .few), t .ordered, t .lent, t .is-sound, le-ltb (used + 1) m h, lt-leb (2 ^ n) row l, e); bytes-are = refl }
+    pub walk-says : m ≤ used + 1 → row < 2 ^ n → {x set count : ℕ} → x ≡ walk c m row → set ≡ flagSet (flagsAsked c m row)
+        → count ≡ length (flagsAsked c m row) → Walks n o c used m row (accepted (x ∷ set ∷ count ∷ []))
+    walk-says h l e f g =
+        record { answer = rw (le-ltb _ _ (t .few), t .ordered, t .lent, t .is-sound, le-ltb (used + 1) m h, lt-leb (2 ^ n) row l, e, f, g); bytes-are = refl }
 
 -- ---- tabulate
 

@@ -6,7 +6,7 @@ use rule::Said;
 ghost use Rattle.rule.specs.Answers.{doneReply, saidReply};
 ghost use Rattle.rule.specs.Calls.{Walks, Tabulates};
 
-// Walk: the answer of a node in a row, or why there is none: 1, 4, 5, 6, 7, then 9.
+// Walk: the answer of a node in a row, the set of the flags asked and their number; or why there is none: 1, 4, 5, 6, 7, then 9.
 pub fn walk(n: u8, order: Order, cells: &[u16], used: u16, node: Node, row: u16) -> Said
     ensures { λ r. ⌜ Walks n (order .places) (now (cells .entry)) used (node .number) row (saidReply r) ⌝ }
 {
@@ -22,7 +22,12 @@ pub fn walk(n: u8, order: Order, cells: &[u16], used: u16, node: Node, row: u16)
     if arguments::row_count(n) <= row as usize {
         return Said::Refused(9);
     }
-    Said::Answer(descend(cells, used, from, row) as u8)
+    let descent = descend(cells, used, from, row);
+    Said::Answer {
+        answer: descent.end as u8,
+        asked: descent.asked,
+        count: descent.count as u8,
+    }
 }
 
 // Tabulate: the table of a node in lent bytes, or why there is none: 1, 2, 4, 5, 6, then 7.

@@ -9,7 +9,7 @@ returns : tie.Need-returns
 returns c =
     let told = c .before .before in
     let call = told .before .before in
-    (saidReply (call .walk .result), call .walk .ensures, rw (told .a .given .1) (c .answer .ensures))
+    (saidReply (call .walk .result), call .walk .ensures, rw (told .answer .given .1) (c .walked .ensures))
 
 returns-2 : tie.Need-returns-2
 returns-2 c =
@@ -20,12 +20,4 @@ returns-2 c =
 pub engine-walk-spec : {M : Type 1} → statement M
 engine-walk-spec =
     tie.close
-    (tie.spec
-    (λ c κs. search needs)
-    (λ c. search needs)
-    (λ c. search needs)
-    (λ c κs. search needs)
-    (λ c. search needs)
-    (λ c κs. search needs)
-    returns
-    returns-2)
+    (tie.spec (λ c κs. search needs) (λ c. search needs) (λ c κs. search needs) (λ c. search needs) (λ c κs. search needs) returns returns-2)

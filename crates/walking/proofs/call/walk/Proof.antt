@@ -3,7 +3,7 @@
 use native.Mathlib.Omega.{arith}
 use borrow.Author.Needs.{needs}
 use Rattle.checking.proofs.Refused.{Taken, rows-passed}
-use Rattle.walking.proofs.Answer.{few-used, walkable, says-lt, walk-refused, walk-far, walk-no-row, walk-says}
+use Rattle.walking.proofs.Answer.{few-used, walkable, says-lt, asks-le, walk-refused, walk-far, walk-no-row, walk-says}
 use Rattle.walking.proofs.call.walk.Statement.{statement}
 use Rattle.walking.proofs.call.walk.Tie as tie
 
@@ -23,7 +23,8 @@ returns-3 c =
 
 returns-4 : tie.Need-returns-4
 returns-4 c =
-    walk-says _ _ _ _ _ _ (taken (c .before .before .before .before)) (c .before .before .before .if2 .left) (omega (arith, c .before .before .row-count .ensures, c .before .if3 .left)) (c .descend .ensures)
+    let end = c .before .before in
+    walk-says _ _ _ _ _ _ (taken (end .before .before .before .before)) (end .before .before .before .if2 .left) (omega (arith, end .before .before .row-count .ensures, end .before .if3 .left)) (end .descend .ensures .0) (end .descend .ensures .1 .0) (end .descend .ensures .1 .1)
 
 pub walk-spec : {M : Type 1} → statement M
 walk-spec =
@@ -37,5 +38,9 @@ walk-spec =
     returns-3
     (λ c κs. walkable (taken (c .before .before .before)) (omega (arith, c .before .before .if2 .left)))
     (λ c.
-    omega (arith, says-lt (taken (c .before .before .before .before)) _ _ (c .descend .ensures) (omega (arith, c .before .before .before .if2 .left))))
+    let end = c .before in
+    omega (arith, says-lt (taken (end .before .before .before .before)) _ _ (end .descend .ensures .0) (omega (arith, end .before .before .before .if2 .left))))
+    (λ c.
+    let end = c .before .before in
+    omega (arith, asks-le (taken (end .before .before .before .before)) _ _ (end .descend .ensures .1 .1) (omega (arith, end .before .before .before .if2 .left))))
     returns-4)

@@ -1,0 +1,21 @@
+-- `noting::said` meets its contract: the words are the values of the answer's case.
+-- Assumes nothing.
+use borrow.Author.Needs.{needs}
+use Rattle.noting.proofs.said.Statement.{statement}
+use Rattle.noting.proofs.said.Tie as tie
+
+returns : tie.Need-returns
+returns c = rw (c .before .before .answer .given .1) (c .accepted .ensures)
+
+pub said-spec : {M : Type 1} → statement M
+said-spec =
+    tie.close
+    (tie.spec
+    (λ c. search needs)
+    (λ c. search needs)
+    (λ c. search needs)
+    (λ c κs. search needs)
+    (λ c. search needs)
+    (λ c κs. search needs)
+    returns
+    (λ c. search needs))
