@@ -46,7 +46,7 @@ module _ (c : List ℕ) (row : ℕ) where
       ∙ ap {B = List ℕ} (λ (x : ℕ). x ∷ passedIn a c (step c x row) row) e
 
 -- at an end node no record is passed, so no flag is asked
-pub passed-end : (c : List ℕ) (m row : ℕ) → m < 2 → recordsPassed c m row ≡ []
+passed-end : (c : List ℕ) (m row : ℕ) → m < 2 → recordsPassed c m row ≡ []
 passed-end c m row h = passed-stop c row m m h
 
 pub asked-end : (c : List ℕ) (m row : ℕ) → m < 2 → flagsAsked c m row ≡ []
@@ -54,7 +54,7 @@ asked-end c m row h = ap (map (flagAt c)) (passed-end c m row h)
 
 module _ {c : List ℕ} {used : ℕ} (s : Smaller c used) where
   -- a record is passed, and then those of the walk from its child
-  pub passed-record : (k row : ℕ) → k < used → recordsPassed c (k + 2) row ≡ k ∷ recordsPassed c (step c k row) row
+  passed-record : (k row : ℕ) → k < used → recordsPassed c (k + 2) row ≡ k ∷ recordsPassed c (step c k row) row
   passed-record k row =
       at-record s row (λ (a m : ℕ). passedIn a c m row) (λ (m : ℕ). []) (λ (k : ℕ) (ks : List ℕ). k ∷ ks) (passed-stop c row) (passed-step c row) k
 

@@ -1,4 +1,4 @@
-// Walks down a diagram and the table of a node (document 01, "Tables, orders, nodes" and "The store"). Both calls take any node of sound cells and don't test
+// Walks down a diagram and the table of a node (document 01, "Tables, orders, nodes" and "The store"; request 2). Both calls take any node of sound cells and don't test
 // reach.
 mod call;
 mod steps;
