@@ -1,4 +1,5 @@
-// The calls on single diagrams: those of the older commit beside this one's, and walk and tabulate beside the same in plain C.
+// The calls on single diagrams: those of the older commit beside this one's, walk and tabulate beside the same in plain C, and read of records in sequence
+// beside others.
 #include "drawing.h"
 #include "engine.h"
 #include "older/older.h"
@@ -59,6 +60,19 @@ TABULATE(c_tabulate, plain_tabulate)
 BUILD(new_build, engine_build)
 BUILD(old_build, old_engine_build)
 
+// The files of those diagrams, with their records in sequence and as they are drawn in C.
+enum { HEAD = 2 + FLAGS + 2, RECORD = 5 };
+static uint8_t settled[TABLES][HEAD + RECORD * RECORDS], drawn[TABLES][HEAD + RECORD * RECORDS];
+
+#define READ(name, files)                                                                                                 \
+    static uint64_t name(int i)                                                                                           \
+    {                                                                                                                     \
+        uint8_t order[10];                                                                                                \
+        return engine_read(files[i], HEAD + RECORD * diagrams[i].used, order, lent, CELLS);                               \
+    }
+READ(read_settled, settled)
+READ(read_drawn, drawn)
+
 static void must(int holds, const char *what)
 {
     if (!holds) {
@@ -105,6 +119,38 @@ static void make_diagrams(void)
     printf("%d random tables of ten flags have %.1f records each\n", TABLES, sum / TABLES);
 }
 
+// A rule file with n, the rising order and records.
+static void write_file(uint8_t *file, const struct store *of)
+{
+    *file++ = 11;
+    *file++ = FLAGS;
+    for (int i = 0; i < FLAGS; i++)
+        *file++ = rising_order[i];
+    *file++ = of->used % 256;
+    *file++ = of->used / 256;
+    for (const uint16_t *record = of->cells; record < of->cells + WIDTH * of->used; record += WIDTH) {
+        *file++ = record[0];
+        for (int child = 1; child < WIDTH; child++) {
+            *file++ = record[child] % 256;
+            *file++ = record[child] / 256;
+        }
+    }
+}
+
+// Both files of a table are read to the cells that build left.
+static void make_files(void)
+{
+    for (int i = 0; i < TABLES; i++) {
+        struct store other = {.used = 0};
+        draw(&other, RECORDS, tables[i]);
+        write_file(settled[i], &diagrams[i]);
+        write_file(drawn[i], &other);
+        must(refusal(read_settled(i)) == 0 && memcmp(lent, diagrams[i].cells, sizeof lent) == 0, "a file is read to other cells");
+        memset(lent, 7, sizeof lent);
+        must(refusal(read_drawn(i)) == 0 && memcmp(lent, diagrams[i].cells, sizeof lent) == 0, "a file in another sequence is read to other cells");
+    }
+}
+
 // All three walks answer alike, of stores with one cell changed; this one's and that in plain C with the same flags asked.
 static void compare(void)
 {
@@ -131,6 +177,7 @@ static const struct way walks[2] = {{"old", old_walk, 0}, {"new", new_walk, 0}};
 static const struct way checks[2] = {{"old", old_check, 0}, {"new", new_check, 0}};
 static const struct way tabulates[2] = {{"old", old_tabulate, 0}, {"new", new_tabulate, 0}};
 static const struct way builds[2] = {{"old", old_build, 0}, {"new", new_build, 0}};
+static const struct way reads[2] = {{"in sequence", read_settled, 0}, {"as drawn", read_drawn, 0}};
 static const struct way plain_walks[2] = {{"engine", new_walk, 0}, {"plain C", c_walk, 0}};
 static const struct way plain_tabulates[2] = {{"engine", new_tabulate, 0}, {"plain C", c_tabulate, 0}};
 
@@ -166,6 +213,7 @@ int main(void)
 
     compare();
     make_diagrams();
+    make_files();
 
     print_head(walks, 2);
     measure_walks(walks, 1, 30);
@@ -181,5 +229,8 @@ int main(void)
     measure_walks(plain_walks, 1, 200);
     measure_walks(plain_walks, 0, 200);
     measure_diagrams("tabulate a diagram", plain_tabulates);
+
+    print_head(reads, 2);
+    measure_diagrams("read of a file", reads);
     return 0;
 }

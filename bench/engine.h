@@ -20,6 +20,9 @@ uint64_t engine_join(uint8_t n, const uint8_t *order, uint16_t *cells, size_t le
 uint64_t engine_pack(uint8_t n, const uint8_t *table, size_t rows, uint8_t *order, uint16_t *cells, size_t length, uint16_t *workspace,
                      size_t space);
 
+// Read: n, the record count and the root; the order as pack's.
+uint64_t engine_read(const uint8_t *file, size_t bytes, uint8_t *order, uint16_t *cells, size_t length);
+
 // The parts of an answer.
 static inline unsigned refusal(uint64_t answer) { return answer & 0xff; }
 static inline unsigned first_value(uint64_t answer) { return answer >> 8 & 0xffff; }

@@ -9,6 +9,9 @@ enum { MOST_FLAGS = 10, SET_COUNT = 1 << MOST_FLAGS, MOST_WAYS = SET_COUNT / 2, 
 // What the engine's hashes of ways and of records multiply by.
 enum { FLAG_FACTOR = 349, HIGH_FACTOR = 633 };
 
+// More numbers than nodes have, by which the engine's words of records are made.
+enum { NUMBERS = 2048 };
+
 // Way i with one flag more, at place p, fixed to 0; fixed to 1 it is 2^p on.
 static unsigned widen(unsigned i, unsigned p) { return i + (i >> p << p); }
 
@@ -133,6 +136,37 @@ static int draw(struct drawing *of, unsigned at, unsigned row)
     return node(of, flag, low, high);
 }
 
+// Lays the records in sequence, and 0 past them: level by level from the last, and in a level by the numbers that the children have by then.
+static void lay(const struct drawing *of, uint16_t *cells, size_t length)
+{
+    uint16_t moved[RECORDS + 2] = {0, 1};
+    uint32_t words[RECORDS];
+    unsigned next = 2;
+    for (unsigned at = of->n; at-- > 0;) {
+        unsigned count = 0;
+        for (unsigned k = 0; k < of->used; k++) {
+            const uint16_t *record = of->cells + WIDTH * k;
+            if (record[0] != of->order[at])
+                continue;
+            uint32_t word = ((uint32_t)moved[record[1]] * NUMBERS + moved[record[2]]) * RECORDS + k;
+            unsigned i = count++;
+            for (; i > 0 && word < words[i - 1]; i--)
+                words[i] = words[i - 1];
+            words[i] = word;
+        }
+        for (unsigned i = 0; i < count; i++)
+            moved[words[i] % RECORDS + 2] = next++;
+    }
+    for (unsigned k = 0; k < of->used; k++) {
+        const uint16_t *record = of->cells + WIDTH * k;
+        uint16_t *laid = cells + WIDTH * (moved[k + 2] - 2);
+        laid[0] = record[0];
+        laid[1] = moved[record[1]];
+        laid[2] = moved[record[2]];
+    }
+    memset(cells + WIDTH * of->used, 0, (length - WIDTH * of->used) * sizeof *cells);
+}
+
 uint64_t plain_pack(uint8_t n, const uint8_t *table, size_t rows, uint8_t *order, uint16_t *cells, size_t length, uint16_t *workspace, size_t space)
 {
     struct drawing of;
@@ -166,7 +200,6 @@ uint64_t plain_pack(uint8_t n, const uint8_t *table, size_t rows, uint8_t *order
         memset(order, 0, MOST_FLAGS);
         return 10;
     }
-    memcpy(cells, of.cells, WIDTH * of.used * sizeof *cells);
-    memset(cells + WIDTH * of.used, 0, (length - WIDTH * of.used) * sizeof *cells);
+    lay(&of, cells, length);
     return (uint64_t)of.used << 8 | (uint64_t)root << 24;
 }

@@ -1,4 +1,4 @@
-// Pack in plain C: the same recursion over all sets in the same workspace, then the diagram by a unique table, each with the same index.
+// Pack in plain C: the same recursion over all sets in the same workspace, then the diagram by a unique table, each with the same index, in the one sequence.
 #ifndef SEARCH_H
 #define SEARCH_H
 

@@ -1,11 +1,15 @@
-//! The files and writes of the vectors: those at the edges, good files that are damaged, and rules
-//! that are written and read back.
+//! The files and writes of the vectors: those at the edges, good files that are damaged, rules that
+//! are written and read back, and those in several sequences.
 
 use crate::file_edges::{edges, given, reads};
 use crate::file_lines::{answer, play, say_write};
-use crate::files::{bytes_of, read, records_of, write, Filed};
-use crate::{collapse, recast, table_from, Dice, CELLS, WIDTH};
+use crate::files::{as_written, bytes_of, in_sequence, read, write, Filed};
+use crate::{permitted, recast, table_from, Dice, CELLS, WIDTH};
 use std::collections::BTreeSet;
+
+/// The most records that a diagram of ten flags has: those of the first seven flags asked, one that
+/// asks the eighth for each way through these, and all 12 and 2 that there are for the last two.
+pub const LONGEST: usize = 127 + 128 + 12 + 2;
 
 /// The rows of the refusal table that the reader tests, and the writer.
 const TESTED: [&[usize]; 2] = [&[1, 4, 5, 6, 10, 11, 12, 13], &[1, 4, 5, 6, 7, 10, 13]];
@@ -16,9 +20,9 @@ impl Dice {
         loop {
             let eighths = 1 + self.below(7);
             let table = self.table(order.len(), eighths);
-            let (records, root) = records_of(&collapse(&table, &order));
-            if (least..=most).contains(&records.len()) {
-                return Filed { order, label: label.into(), records, root };
+            let filed = Filed::collapsed(&table, order.clone(), label);
+            if (least..=most).contains(&filed.records.len()) {
+                return filed;
             }
         }
     }
@@ -53,7 +57,7 @@ fn goods(dice: &mut Dice) -> Vec<(usize, Filed)> {
 /// hold its records exactly, into more of them, and into those for one record fewer.
 fn damaged(map: usize, filed: &Filed) -> Vec<String> {
     let (file, exact) = (bytes_of(map, filed), WIDTH * filed.records.len());
-    assert_eq!(read(&file, exact).as_ref(), Ok(filed));
+    assert_eq!(read(&file, exact), Ok(in_sequence(filed)));
     let mut lines = reads(&file, &[exact, exact + 1, exact + WIDTH, CELLS]);
     let mut say = |cells: usize, changes: &[&str]| {
         let call = |change: &&str| change.replace('%', &cells.to_string());
@@ -75,21 +79,20 @@ fn all_values(map: usize, filed: &Filed, most: usize) -> Vec<String> {
     reads(&file, &[]).into_iter().chain(each).collect()
 }
 
-/// A rule of ten flags with as many nodes as there can be, so that counts and nodes take two bytes:
-/// the first seven flags asked lead to a part of their own each, which asks the eighth.
-fn largest(dice: &mut Dice) -> Filed {
+/// A rule of ten flags with as many nodes as there can be, so that counts and nodes take two bytes.
+pub fn largest(dice: &mut Dice) -> Filed {
     let (order, parts) = (dice.order(10), dice.order(256));
     let asks =
         |part: &usize| [0, 2, 4, 6].iter().any(|low| (part >> low) & 1 != (part >> low >> 1) & 1);
     let parts: Vec<usize> = parts.into_iter().filter(asks).collect();
     let table = table_from(10, |row| (parts[row % 128] >> (row / 128)) & 1 == 1);
-    let (records, root) = records_of(&collapse(&recast(&table, 10, &order), &order));
-    assert_eq!(records.len(), 127 + 128 + 12 + 2);
-    Filed { order, label: b"ten".to_vec(), records, root }
+    let filed = Filed::collapsed(&recast(&table, 10, &order), order, "ten");
+    assert_eq!(filed.records.len(), LONGEST);
+    filed
 }
 
 /// A random rule of n flags.
-fn any(dice: &mut Dice, n: usize) -> Filed {
+pub fn any(dice: &mut Dice, n: usize) -> Filed {
     let (order, label) = (dice.order(n), dice.label());
     dice.filed(order, &label, 0, CELLS / WIDTH)
 }
@@ -99,7 +102,7 @@ fn any(dice: &mut Dice, n: usize) -> Filed {
 fn back(dice: &mut Dice, filed: &Filed) -> Vec<String> {
     let (given, exact) = (given(filed), WIDTH * filed.records.len());
     let file = write(&given, usize::MAX).expect("a diagram");
-    assert_eq!(read(&file, exact).as_ref(), Ok(filed));
+    assert_eq!(read(&file, exact), Ok(in_sequence(filed)));
     let bytes = file.len() + dice.below(3);
     let mut lines = vec![say_write(&given, bytes), format!("r {exact}")];
     if exact > 0 {
@@ -110,7 +113,7 @@ fn back(dice: &mut Dice, filed: &Filed) -> Vec<String> {
 }
 
 /// The map of a rule's file. Bits 0 and 1 may stand without need.
-fn fit_map(dice: &mut Dice, filed: &Filed) -> usize {
+pub fn fit_map(dice: &mut Dice, filed: &Filed) -> usize {
     let Filed { order, label, records, root } = filed;
     let is_rising = order.iter().copied().eq(0..order.len());
     let needed =
@@ -136,17 +139,21 @@ fn random(dice: &mut Dice) -> Vec<String> {
     reads(&file, &[WIDTH * room.saturating_sub(1)])
 }
 
-/// The reader and the writer meet every refusal that they test, and no other.
+/// The reader and the writer meet every refusal that they test, and no other; files stand in
+/// sequence and out of it.
 fn cover(lines: &[String]) {
     let mut met = [BTreeSet::new(), BTreeSet::new()];
-    let mut file = Vec::new();
+    let (mut file, mut read) = (Vec::new(), Vec::new());
     for line in lines {
         let output = answer(&mut file, line);
+        let cells = line.strip_prefix("r ").and_then(|cells| cells.parse().ok());
+        read.extend(cells.and_then(|cells| as_written(&file, cells).ok()));
         let refused = output.lines().filter_map(|line| line.strip_prefix("refused "));
         let numbers = refused.filter_map(|rest| rest.split(' ').next()?.parse::<usize>().ok());
         met[usize::from(line.starts_with('w'))].extend(numbers);
     }
     assert_eq!(met, TESTED.map(|rows| rows.iter().copied().collect()));
+    permitted::cover(&read);
 }
 
 /// The input for the test program, and its output.
@@ -162,6 +169,7 @@ pub fn vectors() -> (String, String) {
     rules.extend([any(&mut dice, 8), largest(&mut dice)]);
     rules.iter().for_each(|filed| lines.extend(back(&mut dice, filed)));
     (0..150).for_each(|_| lines.extend(random(&mut dice)));
+    lines.extend(permitted::sequences());
     let input: String = lines.iter().map(|line| format!("{line}\n")).collect();
     cover(&lines);
     let output = play(&input);

@@ -21,9 +21,9 @@
 //!     bytes LENGTH FILE rest kept
 //!     refused K kept
 //!
-//! The cells are those of the records; `rest 0` says that the others are 0, `rest kept` that the
-//! bytes past the file are as lent. Of a refused file `kept` says that order and label come back as
-//! zeros and empty and the cells are as lent; of a refused write that the bytes are.
+//! The cells are those of the records in sequence; `rest 0` says that the others are 0, `rest kept`
+//! that the bytes past the file are as lent. Of a refused file `kept` says that order and label
+//! come back as zeros and empty and the cells are as lent; of a refused write that the bytes are.
 
 use crate::files::{read, write, Filed, Given};
 use crate::{digits, or_refused, phrase, sized};
@@ -84,6 +84,30 @@ pub const WORKED: &[(&str, &str)] = &[
          n 0 order 0000000000 records 0 root 0 \
          label 41414141414141414141414141414141414141414141414141414141414141 cells rest 0;\
          refused 13 kept;refused 13 kept",
+    ),
+    // Files out of sequence by level, by low, by high; parity, the records of the flag asked last
+    // being exchanged, and so those above, but not by old numbers; a child behind its parent.
+    (
+        "f 0b030001020300010000010002000001000003000200;r 3r;\
+         f 0b0300010204000200000100010200010001000002000004000300;r 4r;\
+         f 0b0300010204000200000100010000020001000001000003000400;r all;\
+         f 0b03020001050001010000000100000100000200030000030002000205000400;r 6r;\
+         f 0b0300010204000100000300020000010001030001000002000400;r 4r",
+        "n 3 order 0120000000 records 3 root 4 label - cells 2 0 1 1 0 1 0 2 3 rest 0;\
+         n 3 order 0120000000 records 4 root 5 label - cells 2 0 1 1 0 2 1 2 1 0 3 4 rest 0;\
+         n 3 order 0120000000 records 4 root 5 label - cells 2 0 1 1 0 1 1 0 2 0 4 3 rest 0;\
+         n 3 order 2010000000 records 5 root 6 label - \
+         cells 1 0 1 1 1 0 0 2 3 0 3 2 2 4 5 rest 0;\
+         refused 6 kept",
+    ),
+    // The writer keeps a sequence; what is read back and written again has the one.
+    (
+        "w 3 000102 4 5 28 - 4r 2 0 1 1 2 1 1 0 2 0 4 3;r 4r;\
+         w 3 000102 4 5 28 - 4r 2 0 1 1 0 2 1 2 1 0 3 4;r 4r",
+        "bytes 27 0b0300010204000200000100010200010001000002000004000300 rest kept;\
+         n 3 order 0120000000 records 4 root 5 label - cells 2 0 1 1 0 2 1 2 1 0 3 4 rest 0;\
+         bytes 27 0b0300010204000200000100010000020001020001000003000400 rest kept;\
+         n 3 order 0120000000 records 4 root 5 label - cells 2 0 1 1 0 2 1 2 1 0 3 4 rest 0",
     ),
     // Each byte of a file in turn. Without bit 0 the second byte is left over.
     (

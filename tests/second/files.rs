@@ -1,7 +1,8 @@
 //! Rule files, read and written by the paper's words. The reader is lent a number of cells, the
 //! writer what stands in them and a number of bytes.
 
-use crate::{are_unfit, is_order, refuse, Diagram, Node, WIDTH};
+use crate::sequence::{put_in_sequence, table_of};
+use crate::{are_unfit, collapse, is_order, refuse, Diagram, Node, WIDTH};
 use std::collections::BTreeSet;
 
 /// "the longest label in any file of ours has exactly 31. That becomes the limit for reader and
@@ -18,6 +19,14 @@ pub struct Filed {
     pub label: Vec<u8>,
     pub records: Vec<Record>,
     pub root: usize,
+}
+
+impl Filed {
+    /// A table under an order, with the records as the collapse leaves them.
+    pub fn collapsed(table: &[usize], order: Vec<usize>, label: &str) -> Filed {
+        let (records, root) = records_of(&collapse(table, &order));
+        Filed { order, label: label.into(), records, root }
+    }
 }
 
 /// What the writer takes, but for the bytes; the order has all its ten places.
@@ -86,8 +95,8 @@ fn take<'a>(rest: &mut &'a [u8], length: usize) -> Result<&'a [u8], usize> {
 }
 
 /// "The reader tests 5, then the file from left to right, each field's 11 ahead of its contents,
-/// then 11 for bytes left over, then 6 for the records."
-pub fn read(file: &[u8], cells: usize) -> Result<Filed, usize> {
+/// then 11 for bytes left over, then 6 for the records." These come as they stand in the file.
+pub fn as_written(file: &[u8], cells: usize) -> Result<Filed, usize> {
     refuse(&[(5, are_unfit(cells))])?;
     let rest = &mut &file[..];
     let map = take(rest, 1)?[0];
@@ -122,6 +131,19 @@ pub fn read(file: &[u8], cells: usize) -> Result<Filed, usize> {
     Ok(Filed { order, label: label.to_vec(), records, root })
 }
 
+/// The rule with its records in sequence: that of the table that they stand for.
+pub fn in_sequence(filed: &Filed) -> Filed {
+    let Filed { order, records, root, .. } = filed;
+    let records = put_in_sequence(records, &table_of(records, *root, order.len()), order);
+    Filed { records, ..filed.clone() }
+}
+
+/// "Files in another permitted sequence are still read; their records are put in sequence on
+/// loading" (document 02, request 3).
+pub fn read(file: &[u8], cells: usize) -> Result<Filed, usize> {
+    as_written(file, cells).map(|filed| in_sequence(&filed))
+}
+
 /// "The first byte is a bit map; fields follow in bit order, only where the bit stands."
 pub fn bytes_of(map: usize, filed: &Filed) -> Vec<u8> {
     let two = |number: usize| [(number % 256) as u8, (number / 256) as u8];
@@ -138,7 +160,8 @@ pub fn bytes_of(map: usize, filed: &Filed) -> Vec<u8> {
 }
 
 /// "The writer always sets bits 0 and 1; it sets the others when needed". It goes by the refusal
-/// table, 13 ahead of 10.
+/// table, 13 ahead of 10. "Lent cells in another permitted sequence are accepted as before, and the
+/// writer keeps theirs."
 pub fn write(given: &Given, bytes: usize) -> Result<Vec<u8>, usize> {
     let Given { n, order, cells, used, root, label } = given;
     refuse(&[(1, *n > 10), (4, !is_order(order, *n)), (5, are_unfit(cells.len()))])?;

@@ -1,7 +1,7 @@
 //! The listing program by the paper's words, and the lines of its vectors.
 
-use crate::{digits, draw_packed, each_once, numbers, or_refused, phrase, recast, refuse};
-use crate::{table_from, tables_with_form, Dice, Drawing};
+use crate::{all_tables, digits, draw_packed, each_once, numbers, or_refused, phrase, recast};
+use crate::{refuse, table_from, tables_with_form, Dice, Drawing};
 
 /// "It reads standard input up to the first byte 0A, or to the end"; each byte is a row.
 pub fn list(input: &[u8]) -> Result<String, usize> {
@@ -28,9 +28,7 @@ pub fn say(input: &[u8]) -> String {
 /// and random ones.
 fn tables(dice: &mut Dice) -> Vec<Vec<usize>> {
     let mut tables = vec![numbers("0000010100110111")];
-    for n in 0..=2 {
-        tables.extend((0..1u32 << (1 << n)).map(|all| table_from(n, |row| (all >> row) & 1 == 1)));
-    }
+    tables.extend((0..=2).flat_map(all_tables));
     (3..=6).for_each(|n| tables.extend(tables_with_form(n, dice)));
     tables.extend((0..160).map(|i| dice.table(3 + i % 4, [1, 2, 4, 6, 7][i % 5])));
     tables.extend(tables_with_form(7, dice).into_iter().step_by(2));

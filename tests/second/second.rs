@@ -1,10 +1,11 @@
 //! The second program: an oracle for the diagram engine, written apart from it. From a table it
 //! draws the full decision tree, applies the two collapsing steps of document 001, section 2.1,
 //! as they are worded, and finds the packed order by trying every order. It finds the flags that
-//! a walk asks by the table, and by the collapsed tree. It keeps a store by tables alone, and the
-//! plain book beside it, and reads and writes rule files. It checks the papers' examples, writes
-//! test vectors, lists a table and plays lines of files and of store calls. "The paper" below is
-//! document 01; `Err` holds the number of a refusal. Build: rustc -O --edition 2021 second.rs
+//! a walk asks by the table, and by the collapsed tree. By tables alone it numbers a diagram's
+//! records, and keeps a store, with the plain book beside it; it reads and writes rule files. It
+//! checks the papers' examples, writes test vectors, lists a table and plays lines of files and of
+//! store calls. "The paper" below is document 01; `Err` holds the number of a refusal. Build:
+//! rustc -O --edition 2021 second.rs
 
 mod book;
 mod damaged;
@@ -13,8 +14,10 @@ mod file_lines;
 mod files;
 mod listing;
 mod lists;
+mod permitted;
 mod play;
 mod scribe;
+mod sequence;
 mod store;
 mod worked;
 
@@ -243,21 +246,21 @@ fn or_refused(answer: Result<String, usize>) -> String {
 /// has the words for cells. Ten flags are tried by build only: pack would have 10! orders to draw.
 const EXAMPLES: &[(&str, &str)] = &[
     // Document 01, settled examples.
-    ("pack 0 1 all 1", "nodes 0; root 1"),
-    ("pack 1 00 all 3", "nodes 0; order 0"),
-    ("pack 1 01 all 3", "nodes 1"),
-    ("pack 2 0011 all 9", "nodes 1; order 0 1; flags 0 1"),
-    ("pack 3 00010111 all 27", "nodes 4"),
-    ("build 3 01101001 all 012", "nodes 5"),
+    ("pack 0 1 all 1", "nodes 0; root 1; cells"),
+    ("pack 1 00 all 3", "nodes 0; order 0; cells"),
+    ("pack 1 01 all 3", "nodes 1; cells 0 0 1"),
+    ("pack 2 0011 all 9", "nodes 1; order 0 1; flags 0 1; cells 1 0 1"),
+    ("pack 3 00010111 all 27", "nodes 4; cells 2 0 1 1 0 2 1 2 1 0 3 4"),
+    ("build 3 01101001 all 012", "nodes 5; cells 2 0 1 2 1 0 1 2 3 1 3 2 0 4 5"),
     ("build 3 01101001 all 021", "nodes 5"),
     ("build 3 01101001 all 102", "nodes 5"),
     ("build 3 01101001 all 120", "nodes 5"),
-    ("build 3 01101001 all 201", "nodes 5"),
+    ("build 3 01101001 all 201", "nodes 5; cells 1 0 1 1 1 0 0 2 3 0 3 2 2 4 5"),
     ("build 3 01101001 all 210", "nodes 5"),
-    ("build 4 0001000100011111 all 0123", "nodes 4"),
-    ("build 4 0001000100011111 all 0213", "nodes 6"),
-    ("build 3 00100101 all 012", "nodes 4"),
-    ("build 3 00100101 all 102", "nodes 5"),
+    ("build 4 0001000100011111 all 0123", "nodes 4; cells 3 0 1 2 0 2 1 3 1 0 3 4"),
+    ("build 4 0001000100011111 all 0213", "nodes 6; cells 3 0 1 1 0 1 1 2 1 2 0 2 2 3 4 0 5 6"),
+    ("build 3 00100101 all 012", "nodes 4; cells 2 0 1 2 1 0 1 0 3 0 4 2"),
+    ("build 3 00100101 all 102", "nodes 5; cells 2 0 1 2 1 0 0 0 2 0 3 2 1 4 5"),
     ("build 10 01*512 all 0123456789", "nodes 1"),
     ("build 11 01*1024 all 0123456789", "refused 1"),
     ("pack 11 01*1024 all 177147", "refused 1"),
@@ -275,6 +278,11 @@ const EXAMPLES: &[(&str, &str)] = &[
     ("list ", "refused 2"),
     ("list 02", "refused 3"),
     ("list 0*512", "refused 8"),
+    // By hand: two records of one level by their high nodes, and by their low ones; two that have
+    // the same children, by level.
+    ("build 3 00010011 all 012", "nodes 4; cells 2 0 1 1 0 1 1 0 2 0 4 3"),
+    ("build 3 00010111 all 012", "nodes 4; cells 2 0 1 1 0 2 1 2 1 0 3 4"),
+    ("build 3 00011011 all 012", "nodes 3; cells 2 0 1 1 0 1 0 2 3"),
     // Document 001, Fig. 2 (a) and (b); their orders are listed there from the end nodes upward.
     ("build 4 0001000100011111 all 2301", "nodes 4"),
     ("build 4 0001000100011111 all 2031", "nodes 6"),
@@ -317,11 +325,13 @@ fn answer(ask: &str) -> Result<String, usize> {
     let drawing = order.map_or_else(|| draw_packed(&table), |order| draw(&table, &order[..n]));
     refuse(&[(10, drawing.nodes > cells / WIDTH)])?;
     let Drawing { order, nodes, flags, root } = drawing;
+    let cells = phrase("cells", &sequence::drawn(&table, &order).concat());
     let (order, flags) = (phrase("order", &order), phrase("flags", &flags));
-    Ok(format!("nodes {nodes}; {order}; {flags}; root {root}"))
+    Ok(format!("nodes {nodes}; {order}; {flags}; root {root}; {cells}"))
 }
 
-/// Gives the exit code: 0 if every example agrees, and the store's and the files' own checks.
+/// Gives the exit code: 0 if every example agrees, and the own checks of the store, the files and
+/// the sequence.
 fn check() -> i32 {
     let mut code = 0;
     for (ask, expected) in EXAMPLES {
@@ -331,7 +341,8 @@ fn check() -> i32 {
             code = 1;
         }
     }
-    for fault in worked::faults().into_iter().chain(file_lines::faults()) {
+    let faults = [worked::faults(), file_lines::faults(), sequence::faults()];
+    for fault in faults.concat() {
         println!("second: {fault}");
         code = 1;
     }
@@ -369,6 +380,10 @@ fn table_from(n: usize, rule: impl FnMut(usize) -> bool) -> Vec<usize> {
     (0..1 << n).map(rule).map(usize::from).collect()
 }
 
+fn all_tables(n: usize) -> impl Iterator<Item = Vec<usize>> {
+    (0..1usize << (1 << n)).map(move |all| table_from(n, |row| (all >> row) & 1 == 1))
+}
+
 /// The table of n flags in which flag `flags[i]` plays flag i of the given table.
 fn recast(table: &[usize], n: usize, flags: &[usize]) -> Vec<usize> {
     let seen = |row: usize| (0..flags.len()).map(|i| ((row >> flags[i]) & 1) << i).sum::<usize>();
@@ -395,9 +410,7 @@ fn tables_with_form(n: usize, dice: &mut Dice) -> Vec<Vec<usize>> {
 fn vector_tables(dice: &mut Dice) -> Vec<Vec<usize>> {
     let settled = "1 00 01 0011 00010111 01101001 0001000100011111 00100101 0000010100110111";
     let mut tables: Vec<Vec<usize>> = settled.split(' ').map(numbers).collect();
-    for n in 0..=2 {
-        tables.extend((0..1u32 << (1 << n)).map(|all| table_from(n, |row| (all >> row) & 1 == 1)));
-    }
+    tables.extend((0..=2).flat_map(all_tables));
     (3..=6).for_each(|n| tables.extend(tables_with_form(n, dice)));
     tables.extend((0..400).map(|i| dice.table(3 + i % 4, [1, 2, 4, 6, 7][i % 5])));
     tables = each_once(tables);
@@ -423,13 +436,26 @@ fn large_tables() -> Vec<Vec<usize>> {
     each_once(tables)
 }
 
-/// What the walks of all rows hand back beside their answers, as one number: row by row, 31 times
-/// the sum so far, the set, 1,024 times the number and 7, modulo 65,521.
+/// Numbers as one: at each, 31 times the sum so far, the number and 7, modulo 65,521.
+fn sum_of(numbers: impl IntoIterator<Item = usize>) -> usize {
+    numbers.into_iter().fold(0, |sum, number| (31 * sum + number + 7) % 65_521)
+}
+
+/// What the walks of all rows hand back beside their answers, as one number; a row has the set and
+/// 1,024 times the number.
 fn sum_of_walks(table: &[usize], order: &[usize]) -> usize {
-    (0..table.len()).fold(0, |sum, row| {
-        let (set, number) = set_and_number(&flags_asked(table, order, row));
-        (31 * sum + set + 1024 * number + 7) % 65_521
-    })
+    let walks = (0..table.len()).map(|row| set_and_number(&flags_asked(table, order, row)));
+    sum_of(walks.map(|(set, number)| set + 1024 * number))
+}
+
+/// The used cells in sequence; from seven flags on as one number.
+fn say_cells(table: &[usize], order: &[usize]) -> String {
+    let cells = sequence::drawn(table, order).concat();
+    if order.len() <= 6 {
+        phrase("cells", &cells)
+    } else {
+        phrase("sum", &[sum_of(cells)])
+    }
 }
 
 fn vectors(directory: &str) -> std::io::Result<()> {
@@ -438,16 +464,17 @@ fn vectors(directory: &str) -> std::io::Result<()> {
     let [mut pack_in, mut pack_out, mut build_in, mut build_out] = [(); 4].map(|_| String::new());
     for table in tables.iter().chain(&large_tables()) {
         let Drawing { order, nodes, flags, .. } = draw_packed(table);
+        let cells = say_cells(table, &order);
         let (order, flags) = (phrase("order", &order), phrase("flags", &flags));
         pack_in += &format!("p {}\n", digits(table));
-        pack_out += &format!("nodes {nodes} {order} {flags}\n");
+        pack_out += &format!("nodes {nodes} {order} {flags} {cells}\n");
     }
     let mut case = |table: &[usize], order: &[usize]| {
         let Drawing { nodes, flags, .. } = draw(table, order);
         assert_eq!(nodes, count_nodes(table, order), "counted otherwise");
         build_in += &format!("d {} {}\n", digits(table), digits(order));
         let (flags, walks) = (phrase("flags", &flags), sum_of_walks(table, order));
-        build_out += &format!("nodes {nodes} {flags} walks {walks}\n");
+        build_out += &format!("nodes {nodes} {flags} walks {walks} {}\n", say_cells(table, order));
     };
     for table in tables.iter().filter(|table| table.len() <= 16).take(60) {
         orders(flag_count(table), &[]).iter().for_each(|order| case(table, order));

@@ -29,12 +29,17 @@ pub enum Ask {
     Walk(usize),
 }
 
+/// The rule of a table of bytes.
+pub fn rule_of(table: &[usize]) -> Rule {
+    (0..table.len()).filter(|&row| table[row] == 1).collect()
+}
+
 /// 2^n; above ten flags no answer rests on it.
 pub fn row_count(n: usize) -> usize {
     1 << n.min(10)
 }
 
-fn constant(n: usize, value: usize) -> Rule {
+pub fn constant(n: usize, value: usize) -> Rule {
     (0..row_count(n)).filter(|_| value == 1).collect()
 }
 
@@ -50,7 +55,7 @@ fn join(n: usize, code: usize, first: &Rule, second: &Rule) -> Rule {
 
 /// "the result no longer depends on it": a yes row that has the value takes along the row that
 /// differs from it in this flag.
-fn fix(rule: &Rule, i: usize, value: usize) -> Rule {
+pub fn fix(rule: &Rule, i: usize, value: usize) -> Rule {
     let kept = rule.iter().filter(|&row| (row >> i) & 1 == value);
     kept.flat_map(|row| [row & !(1 << i), row | (1 << i)]).collect()
 }
@@ -72,22 +77,28 @@ pub fn make(n: usize, ask: &Ask, rules: &[&Rule]) -> Rule {
 }
 
 /// "Nodes asking flag v number the distinct rules that depend on v and arise by fixing the flags
-/// before v in all ways": these rules for every v, one for each record of the rule's own diagram.
-pub fn records_of(rule: &Rule, order: &[usize]) -> BTreeSet<Rule> {
-    let mut records = BTreeSet::new();
+/// before v in all ways": these rules for each v, the flag asked first standing first.
+pub fn levels_of(rule: &Rule, order: &[usize]) -> Vec<BTreeSet<Rule>> {
+    let mut levels = Vec::new();
     let mut arisen = BTreeSet::from([rule.clone()]);
     for &v in order {
-        let mut next = BTreeSet::new();
+        let [mut level, mut next] = [BTreeSet::new(), BTreeSet::new()];
         for rule in arisen {
             let [low, high] = [0, 1].map(|value| fix(&rule, v, value));
             if low != high {
-                records.insert(rule);
+                level.insert(rule);
             }
             next.extend([low, high]);
         }
+        levels.push(level);
         arisen = next;
     }
-    records
+    levels
+}
+
+/// The same for all v, one for each record of the rule's own diagram.
+pub fn records_of(rule: &Rule, order: &[usize]) -> BTreeSet<Rule> {
+    levels_of(rule, order).into_iter().flatten().collect()
 }
 
 /// The state as the last call left it, and what stands in the lent cells: the rules of the records

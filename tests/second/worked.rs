@@ -2,8 +2,8 @@
 //! that a rule needs beside the nodes that the collapse leaves.
 
 use crate::play::play;
-use crate::store::{depends, records_of, Rule};
-use crate::{digits, draw, orders, sized, table_from};
+use crate::store::{depends, records_of, rule_of, Rule};
+use crate::{all_tables, digits, draw, flag_count, orders, sized};
 
 /// Lists, with the words of `sized` for numbers of cells, and what is printed for them, the lines
 /// parted by `;`.
@@ -103,8 +103,7 @@ fn by_digits(code: usize) -> bool {
 /// The records that ask each flag, the first on which their rules depend, are as many as the nodes
 /// that the collapse leaves.
 fn as_drawn(table: &[usize], order: &[usize]) -> bool {
-    let rule: Rule = (0..table.len()).filter(|&row| table[row] == 1).collect();
-    let records = records_of(&rule, order);
+    let records = records_of(&rule_of(table), order);
     let asks = |rule: &Rule, v: usize| order.iter().find(|&&i| depends(rule, i)) == Some(&v);
     let count = |v: usize| records.iter().filter(|rule| asks(rule, v)).count();
     draw(table, order).flags == (0..order.len()).map(count).collect::<Vec<usize>>()
@@ -120,12 +119,10 @@ pub fn faults() -> Vec<String> {
         }
     }
     faults.extend((0..16).filter(|&code| !by_digits(code)).map(|code| format!("operator {code}")));
-    for n in 0..=3 {
-        for all in 0..1usize << (1 << n) {
-            let table = table_from(n, |row| (all >> row) & 1 == 1);
-            let differ = orders(n, &[]).into_iter().filter(|order| !as_drawn(&table, order));
-            faults.extend(differ.map(|o| format!("records of {} in {o:?}", digits(&table))));
-        }
+    for table in (0..=3).flat_map(all_tables) {
+        let orders = orders(flag_count(&table), &[]).into_iter();
+        let differ = orders.filter(|order| !as_drawn(&table, order));
+        faults.extend(differ.map(|o| format!("records of {} in {o:?}", digits(&table))));
     }
     faults
 }

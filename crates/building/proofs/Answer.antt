@@ -1,9 +1,9 @@
 -- Build's answer, from the tests that led to it.
 -- Assumes nothing.
-use mathlib.Core.Path.{_≡_, refl, sym, ap, subst, _∙_}
+use mathlib.Core.Path.{_≡_, refl, sym, ap, _∙_}
 use mathlib.Core.Bool.{true, false, not}
 use mathlib.Core.List.{List, [], _∷_}
-use Prim.Native.Nat.{ℕ, zero, suc, _≤_}
+use Prim.Native.Nat.{ℕ, _≤_}
 use native.Mathlib.Omega.{arith}
 use borrow.Author.Tests.{ltb-false, lt-ltb, le-ltb, eqb-true, not-false}
 use lib.Dec.{ltb}
@@ -12,11 +12,12 @@ use Rattle.rule.specs.Level.{size}
 use Rattle.rule.specs.Order.{flags, fitOrder}
 use Rattle.rule.specs.Cells.{fitCells, room}
 use Rattle.rule.specs.Refusals.{refusal, flagCount, tableLength, tableRead, orderPlaces, cells, result, buildRows}
-use Rattle.rule.specs.Reply.{accepted, refused, reply}
+use Rattle.rule.specs.Reply.{accepted, refused, reply, leaves}
 use Rattle.rule.specs.Results.{rootBy}
-use Rattle.rule.specs.Calls.{DrawsOr, Build}
+use Rattle.rule.specs.Sequence.{drawing}
+use Rattle.rule.specs.Calls.{Build}
 use Rattle.cells.proofs.Fit.{fit-length}
-use Rattle.theory.proofs.Refused.{row-passed, refused-more, passed-more, refused-reply}
+use Rattle.theory.proofs.Refused.{row-passed, refused-more, passed-more, refused-reply, refused-kept}
 use Rattle.building.specs.Fill.{Fits, Filled, Unfilled}
 
 -- a fit table has at most ten flags
@@ -24,17 +25,13 @@ pub few : (n : ℕ) (t : List ℕ) {k : ℕ} → k ≡ refusal (flagCount n ∷ 
 few n t e z = ltb-false 10 n (row-passed (ltb 10 n) 0 (tableLength n t ∷ tableRead t ∷ []) (sym e ∙ z) .0)
 
 module _ (n : ℕ) (t o c : List ℕ) where
-  left : (k : ℕ) (d : List ℕ) → (k ≡ 0 → ⊥) → d ≡ c → DrawsOr k n o t c d
-  left zero d h e = absurd (h refl)
-  left (suc k) d h e = e
-
   -- refused under a number
   under : (k : ℕ) (d : List ℕ) → (k ≡ 0 → ⊥) → k ≡ refusal (buildRows n t o c) → d ≡ c → Build n t o c (refused k (0 ∷ 0 ∷ [])) d
   under k d h e q =
       record {
         answer = refused-reply k (size (flags n o) t ∷ rootBy (size (flags n o) t) t ∷ []) h
             ∙ ap (λ (i : ℕ). reply i (size (flags n o) t ∷ rootBy (size (flags n o) t) t ∷ [])) e;
-        cells = subst (λ (i : ℕ). DrawsOr i n o t c d) e (left k d h q);
+        cells = q ∙ refused-kept k (drawing n o t c) c h ∙ ap (λ (i : ℕ). leaves i (drawing n o t c) c) e;
       }
 
   pub table-refused : {k : ℕ} → k ≡ refusal (flagCount n ∷ tableLength n t ∷ tableRead t ∷ []) → (k ≡ 0 → ⊥) → Build n t o c (refused k (0 ∷ 0 ∷ [])) c
@@ -79,5 +76,5 @@ module _ (n : ℕ) (t o c : List ℕ) where
           let zero-is : refusal (buildRows n t o c) ≡ 0 = sym rest ∙ rw (a, b, le-ltb _ _ (f .fits)) in
           record {
             answer = rw (zero-is, f .count, f .root-is);
-            cells = rw zero-is (f .draws);
+            cells = rw zero-is (f .drawn);
           }

@@ -1,32 +1,29 @@
 -- A whole drawing from cleared cells: it is the diagram of the table, or the table's diagram has more nodes than there is room for.
 -- Assumes nothing.
 use mathlib.Core.Path.{_≡_, refl, sym, ap, subst, _∙_}
-use mathlib.Core.Bool.{true}
 use mathlib.Core.List.{List}
-use Prim.Native.Nat.{ℕ, zero, suc, _+_, _<_}
+use Prim.Native.Nat.{ℕ, _+_, _<_}
 use native.Mathlib.Omega.{arith}
-use lib.ListN.{length, getD, replicate, length-replicate}
+use lib.ListN.{length, replicate, length-replicate}
 use lib.Pow.{pow-pos}
-use borrow.Author.Tests.{ne-eqb}
 use Rattle.rule.specs.Level.{nodesOf, size}
 use Rattle.rule.specs.Order.{flags}
 use Rattle.rule.specs.Cells.{room}
 use Rattle.rule.specs.Walk.{tableOf}
-use Rattle.rule.specs.Diagram.{diagram}
-use Rattle.rule.specs.Results.{rootBy}
+use Rattle.rule.specs.Sequence.{drawing}
 use Rattle.theory.proofs.Member.{In}
 use Rattle.theory.proofs.Sets.{Order}
 use Rattle.theory.proofs.Orders.{fit-order-is}
 use Rattle.theory.proofs.Shape.{shape-cleared}
 use Rattle.theory.proofs.Sound.{sound-cleared}
-use Rattle.theory.proofs.Walks.{smaller, walk-end, table-row}
-use Rattle.theory.proofs.Reach.{Diagram, all-reached, view-diagram, root-last}
+use Rattle.theory.proofs.Reach.{Diagram, view-diagram, root-by}
 use Rattle.theory.proofs.Counting.{node-reached, used-size}
 use Rattle.theory.proofs.Needed.{needed-size}
 use Rattle.unique.specs.declared.node.Found.the-variants.{Full}
 use Rattle.unique.specs.Node.{grown}
 use Rattle.unique.specs.Search.{Grew}
 use Rattle.unique.proofs.Settled.{unsettled}
+use Rattle.sequencing.specs.Move.{Sequenced}
 use Rattle.drawing.specs.Draw.{Drawing}
 use Rattle.building.specs.Fill.{Fits, Filled}
 
@@ -62,31 +59,15 @@ module _ {n : ℕ} {t order c : List ℕ} (f : Fits n t order c) where
     count : used ≡ size (flags n order) t
     count = used-size whole ord ∙ ap (size (flags n order)) (a .is .table)
 
-    root-is : (k : ℕ) → used ≡ k → root ≡ rootBy k t
-    root-is zero e =
-        let m : root < 2 = omega (arith, a .is .node) in
-        sym (walk-end d root 0 m) ∙ sym (table-row n d root 0 (pow-pos n)) ∙ ap (λ (u : List ℕ). getD u 0 0) (a .is .table)
-    root-is (suc k) e =
-        root-last (smaller (a .grows .is-sound)) root (a .is .node) (omega arith) (all-reached d used root .1 (whole .reached)) ∙ ap (λ (x : ℕ). x + 1) e
-        ∙ sym (rw (ne-eqb (suc k) 0 (omega arith)))
-
-    pub filled : Filled n t order c used root d
-    filled =
-        let e = root-is (size (flags n order) t) count in
+    -- put in sequence in the lent cells, it is the table's drawing
+    pub filled : {x : List ℕ} → Sequenced n order d used c x → Filled n t order c used root x
+    filled s =
         record {
           count = count;
-          root-is = e;
-          fits = omega (arith, count, a .grows .is-sound .fits, lent);
-          draws = record {
-            lent = lent;
-            is-diagram = subst (λ (x : ℕ). diagram n order d (size (flags n order) t) x ≡ true) e
-                (subst (λ (x : ℕ). diagram n order d x root ≡ true) count (view-diagram n order d used root whole));
-            table = subst (λ (x : ℕ). tableOf n d x ≡ t) e (a .is .table);
-          };
+          root-is = root-by whole ∙ rw (a .is .table, count);
+          fits = omega (arith, count, a .grows .is-sound .fits, a .grows .lent, length-replicate {A = ℕ} (length c) 0);
+          drawn = s root (view-diagram n order d used root whole) ∙ ap (λ (u : List ℕ). drawing n order u c) (a .is .table);
         }
-      where
-        lent : length d ≡ length c
-        lent = a .grows .lent ∙ length-replicate (length c) 0
 
   -- the table's diagram needs more records than there is room for
   module _ {used : ℕ} {d : List ℕ} (a : Grew n order (nodesOf (flags n order) t) 0 t (replicate (length c) 0) 0 (record { used = used; found = Full }) d) where

@@ -1,4 +1,4 @@
--- The cells that a diagram is drawn in aside: the first of a local array, as many as were lent.
+-- The cells that a diagram is drawn in aside: the first of a local array, as many as were lent. Its records are then put in sequence.
 -- Assumes nothing.
 use mathlib.Core.Path.{_≡_, sym, ap, subst, _∙_}
 use mathlib.Core.List.{List, _++_}
@@ -16,6 +16,7 @@ use Rattle.unique.specs.declared.node.Grown.{Grown}
 use Rattle.unique.specs.declared.node.Found.{Found}
 use Rattle.unique.specs.declared.node.Found.the-variants.{At, Full}
 use Rattle.unique.specs.Search.{FoundAs, Grew}
+use Rattle.sequencing.specs.Move.{Moves, Sequenced}
 use Rattle.drawing.specs.Draw.{Drawing, Draw}
 use Rattle.building.specs.Fill.{Fits, Filled}
 use Rattle.building.proofs.Filled.{start, filled, exceeds}
@@ -47,8 +48,18 @@ module _ {n : ℕ} {t order c : List ℕ} (f : Fits n t order c) where
     pub end-full : r .found ≡ Full → room c < size (flags n order) t
     end-full e = exceeds f (known Full e)
 
-    pub end-found : {root : ℕ} (rest x : List ℕ) → r .found ≡ At root → x ≡ take (length c - 0) (d ++ rest) → Filled n t order c (r .used) root x
-    end-found {root} rest x e q =
-        subst (λ (z : List ℕ). Filled n t order c (r .used) root z)
-        (sym (q ∙ ap (λ (i : ℕ). take i (d ++ rest)) (sub-zero (length c)) ∙ take-at d rest (length c) drawn-length))
-        (filled f (known (At root) e))
+    -- the part of the array that was drawn in
+    drawn-is : (rest : List ℕ) → take (length c - 0) (d ++ rest) ≡ d
+    drawn-is rest = ap (λ (i : ℕ). take i (d ++ rest)) (sub-zero (length c)) ∙ take-at d rest (length c) drawn-length
+
+    -- its records can be put in sequence in the lent cells
+    pub in-turn : (rest : List ℕ) → Moves n order (take (length c - 0) (d ++ rest)) (r .used) × (length c ≡ length (take (length c - 0) (d ++ rest)))
+    in-turn rest =
+        subst (λ (z : List ℕ). Moves n order z (r .used) × (length c ≡ length z)) (sym (drawn-is rest)) (
+          record { few = f .few; order-fits = f .order-fits; shape = a .grows .is-sound; most = omega (arith, drawn-length, f .lent) },
+          sym drawn-length,
+        )
+
+    pub end-found : {root : ℕ} (rest x : List ℕ) → r .found ≡ At root → Sequenced n order (take (length c - 0) (d ++ rest)) (r .used) c x
+        → Filled n t order c (r .used) root x
+    end-found {root} rest x e q = filled f (known (At root) e) (subst (λ (z : List ℕ). Sequenced n order z (r .used) c x) (drawn-is rest) q)

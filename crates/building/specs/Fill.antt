@@ -10,7 +10,7 @@ use Rattle.rule.specs.Level.{size}
 use Rattle.rule.specs.Order.{flags, fitOrder}
 use Rattle.rule.specs.Cells.{mostCells, room}
 use Rattle.rule.specs.Results.{rootBy}
-use Rattle.rule.specs.Calls.{Draws}
+use Rattle.rule.specs.Sequence.{drawing}
 use Rattle.unique.specs.declared.node.Grown.{Grown}
 use Rattle.unique.specs.declared.node.Found.{Found}
 use Rattle.unique.specs.declared.node.Found.the-variants.{At, Full}
@@ -28,7 +28,7 @@ pub record Filled (n : ℕ) (t order c : List ℕ) (used root : ℕ) (d : List �
   pub count : used ≡ size (flags n order) t
   pub root-is : root ≡ rootBy (size (flags n order) t) t
   pub fits : size (flags n order) t ≤ room c
-  pub draws : Draws n order t c d
+  pub drawn : d ≡ drawing n order t c
 
 -- there is no room for it, and the cells are as they were
 pub record Unfilled (n : ℕ) (t order c d : List ℕ) : Type 0 where

@@ -8,7 +8,7 @@ ghost use Rattle.rule.specs.Answers.{drawnReply};
 ghost use Rattle.rule.specs.Calls.{Build};
 ghost use Rattle.building.specs.Fill.{Fits, Fills};
 
-// The diagram of a fit table in lent cells, which are left alone where it does not fit them: it is drawn aside first.
+// The diagram of a fit table in lent cells, which are left alone where it does not fit them: it is drawn aside first, and put in sequence there.
 fn fill(n: u8, table: &[u8], order: Order, cells: &mut [u16]) -> Grown
     requires { ⌜ Fits n (now table) (order .places) (now cells) ⌝ }
     ensures { λ r. ⌜ Fills n (now (table .entry)) (order .places) (now (cells .entry)) r (now (cells .exit)) ⌝ }
@@ -24,7 +24,7 @@ fn fill(n: u8, table: &[u8], order: Order, cells: &mut [u16]) -> Grown
             found: Found::Full,
         },
         Found::At(root) => {
-            cells::copy(&held[0..len], cells);
+            sequencing::sequence(n, order, &held[0..len], grown.used, cells);
             Grown {
                 used: grown.used,
                 found: Found::At(root),

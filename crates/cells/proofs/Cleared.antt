@@ -8,6 +8,7 @@ use native.Mathlib.Omega.{arith}
 use lib.ListN.{length, getD, take, set, replicate, length-set, length-append, length-replicate, getD-replicate, List·getD-append}
 use lib.Seq.{ext-getD, length-take-le, getD-take, getD-append-add, getD-set-same, getD-set-other}
 use Rattle.rule.specs.Cells.{width}
+use Rattle.rule.proofs.Zeros.{zero-at}
 use Rattle.cells.specs.Record.{clearFrom}
 
 -- d is c with 0 from a up to i
@@ -58,3 +59,29 @@ cleared-all c k i d s h =
         ∙ sym (ap (λ (x : ℕ). getD (take (k * width) c ++ replicate (length c - k * width) 0) x 0) (sym p)
         ∙ getD-append-add (take (k * width) c) (replicate (length c - k * width) 0) (j - k * width) 0
         ∙ getD-replicate (length c - k * width) (j - k * width) 0 0 (omega arith))
+
+-- ---- cells that are cleared from a record on
+
+module _ (c : List ℕ) (k : ℕ) (h : k * width ≤ length c) where
+  front : length (take (k * width) c) ≡ k * width
+  front = length-take-le (k * width) c h
+
+  pub clear-length : length (clearFrom c k) ≡ length c
+  unfolding clearFrom
+  clear-length =
+      length-append (take (k * width) c) (replicate (length c - k * width) 0)
+      ∙ omega (arith, front, length-replicate {A = ℕ} (length c - k * width) 0)
+
+  -- what stands before it is as it was
+  pub clear-before : (i : ℕ) → i < k * width → getD (clearFrom c k) i 0 ≡ getD c i 0
+  unfolding clearFrom
+  clear-before i l =
+      List·getD-append (take (k * width) c) (replicate (length c - k * width) 0) 0 i (omega (arith, front)) ∙ getD-take (k * width) c i 0 l
+
+  pub clear-past : (i : ℕ) → k * width ≤ i → getD (clearFrom c k) i 0 ≡ 0
+  unfolding clearFrom
+  clear-past i l =
+      let e : i ≡ length (take (k * width) c) + (i - k * width) = omega (arith, front) in
+      ap (λ (a : ℕ). getD (take (k * width) c ++ replicate (length c - k * width) 0) a 0) e
+      ∙ getD-append-add (take (k * width) c) (replicate (length c - k * width) 0) (i - k * width) 0
+      ∙ zero-at (length c - k * width) (i - k * width)

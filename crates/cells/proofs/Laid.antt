@@ -4,20 +4,16 @@ use mathlib.Core.Path.{_≡_, refl, sym, ap, _∙_}
 use mathlib.Core.List.{List, [], _∷_, _++_, map}
 use Prim.Native.Nat.{ℕ, zero, suc, _+_, _-_, _*_, _≤_, _<_}
 use native.Mathlib.Omega.{arith}
-use lib.ListN.{length, getD, take, drop, length-append, length-replicate}
+use lib.ListN.{length, getD, take, drop, length-append}
 use lib.Seq.{take-at, take-append-add, drop-append-add, drop-cons, ext-getD}
-use Rattle.rule.specs.Bits.{from, below}
+use Rattle.rule.specs.Bits.{from}
 use Rattle.rule.specs.Cells.{width, room, flagAt, lowAt, highAt, inCells, RecordValues, recordCells, laidIn, recordIn, recordsIn}
 use Rattle.rule.proofs.Zeros.{zeros, take-zeros, drop-zeros, padded}
 use Rattle.theory.proofs.Bits.{length-below}
+use Rattle.theory.proofs.Laying.{length-cells, laid-length}
 use Rattle.cells.specs.Record.{putRecord}
 
 -- ---- the cells of records
-
-length-cells : (rs : List RecordValues) → length (recordCells rs) ≡ length rs * width
-unfolding recordCells
-length-cells [] = refl
-length-cells (r ∷ rs) = omega (arith, length-cells rs)
 
 cells-more : (rs : List RecordValues) (r : RecordValues) → recordCells (rs ++ (r ∷ [])) ≡ recordCells rs ++ inCells (r .flag) (r .low) (r .high)
 unfolding recordCells
@@ -33,12 +29,6 @@ module _ (c : List ℕ) (rs : List RecordValues) (h : length rs ≤ room c) wher
       ap (λ (k : ℕ). take k (recordCells rs ++ zeros (length c))) e
       ∙ take-append-add (recordCells rs) (zeros (length c)) (length c - length rs * width)
       ∙ ap (λ (l : List ℕ). recordCells rs ++ l) (take-zeros (length c - length rs * width) (length c) (omega arith))
-
-  pub laid-length : length (laidIn c rs) ≡ length c
-  laid-length =
-      ap length laid-is
-      ∙ length-append (recordCells rs) (zeros (length c - length rs * width))
-      ∙ omega (arith, length-cells rs, length-replicate {A = ℕ} (length c - length rs * width) 0)
 
 pub laid-none : (c : List ℕ) → c ≡ zeros (length c) → c ≡ laidIn c []
 unfolding recordCells
@@ -57,12 +47,6 @@ laid-more c rs r k e h =
     let left : rest - width ≡ length c - length (rs ++ (r ∷ [])) * width = omega arith in
     rw (laid-is c rs (omega arith), take-at (recordCells rs) (zeros rest) (k * width) at, past, drop-append-add (recordCells rs) (zeros rest) width, drop-zeros width rest, left)
     (sym (laid-is c (rs ++ (r ∷ [])) (omega arith) ∙ rw (cells-more rs r)))
-
--- as long as the lent cells
-pub laid-lent : (c : List ℕ) (f : ℕ → RecordValues) (k : ℕ) {e : List ℕ} → e ≡ laidIn c (map f (below k)) → k ≤ room c → length e ≡ length c
-laid-lent c f k p h =
-    let held : length (map f (below k)) ≤ room c = rw (length-below f k) h in
-    ap length p ∙ laid-length c (map f (below k)) held
 
 -- ---- the used records of cells
 
@@ -97,4 +81,4 @@ module _ (c : List ℕ) (used : ℕ) (fits : used ≤ room c) (clear : (i : ℕ)
       ∙ padded c (used * width) rest (omega arith) clear i
 
   pub laid-same : length d ≡ length c → laidIn d (recordsIn c used) ≡ c
-  laid-same e = ext-getD 0 _ c (laid-length d (recordsIn c used) records-held ∙ e) (λ i l. laid-at i)
+  laid-same e = ext-getD 0 _ c (laid-length d (recordsIn c used) ∙ e) (λ i l. laid-at i)

@@ -1,10 +1,11 @@
 -- The laws of putting a record: its own fields are what was put, and every other record is as it was.
 -- Assumes nothing.
-use mathlib.Core.Path.{_≡_, sym, ap, _∙_}
-use mathlib.Core.Logic.{_⊎_, inl, inr}
+use mathlib.Core.Path.{_≡_, sym, ap, subst, _∙_}
+use mathlib.Core.Logic.{_⊎_, _≢_, inl, inr}
 use mathlib.Core.List.{List, _++_}
 use Prim.Native.Nat.{ℕ, suc, _+_, _-_, _*_, _≤_, _<_}
 use native.Mathlib.Nat.{add-zero}
+use native.Mathlib.Decide.{decLt}
 use native.Mathlib.Omega.{arith}
 use lib.ListN.{length, getD, take, drop, set, length-append, length-drop, List·getD-append}
 use lib.Seq.{length-take-le, getD-take, getD-drop, getD-append-add, sets-eq}
@@ -58,6 +59,24 @@ module _ (c : List ℕ) (k flag low high : ℕ) (h : k < room c) where
       ∙ getD-append-add front (drop ((k + 1) * width) c) (i - (k + 1) * width) 0
       ∙ getD-drop ((k + 1) * width) c (i - (k + 1) * width) 0
       ∙ ap (λ (j : ℕ). getD c j 0) a
+
+  -- so is another record
+  put-apart : (j i : ℕ) → j ≢ k → i < width → getD (putRecord c k flag low high) (j * width + i) 0 ≡ getD c (j * width + i) 0
+  put-apart j i d g = put-else (j * width + i) (elim (decLt j k) [ yes l ↦ inl (omega arith) | no l ↦ inr (omega arith) ])
+
+  pub put-flag-else : (j : ℕ) → j ≢ k → flagAt (putRecord c k flag low high) j ≡ flagAt c j
+  unfolding flagAt
+  put-flag-else j d =
+      let e : j * width + 0 ≡ j * width = omega arith in
+      subst (λ (a : ℕ). getD (putRecord c k flag low high) a 0 ≡ getD c a 0) e (put-apart j 0 d (omega arith))
+
+  pub put-low-else : (j : ℕ) → j ≢ k → lowAt (putRecord c k flag low high) j ≡ lowAt c j
+  unfolding lowAt
+  put-low-else j d = put-apart j 1 d (omega arith)
+
+  pub put-high-else : (j : ℕ) → j ≢ k → highAt (putRecord c k flag low high) j ≡ highAt c j
+  unfolding highAt
+  put-high-else j d = put-apart j 2 d (omega arith)
 
   put-own : (i : ℕ) → i < width → getD (putRecord c k flag low high) (k * width + i) 0 ≡ getD (inCells flag low high) i 0
   put-own i g = in-front (k * width + i) (omega arith) ∙ behind-own c k flag low high (omega arith) i

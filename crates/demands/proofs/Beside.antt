@@ -28,8 +28,7 @@ use Rattle.theory.proofs.Tests.{and-split}
 use Rattle.theory.proofs.Bits.{below-in}
 use Rattle.theory.proofs.Sound.{sound-cleared}
 use Rattle.theory.proofs.Walks.{walk-end}
-use Rattle.theory.proofs.Refused.{row-passed}
-use Rattle.demands.proofs.Stands.{passed}
+use Rattle.theory.proofs.Refused.{row-passed, passed}
 
 -- ---- what holds after each call
 

@@ -10,12 +10,8 @@ use Rattle.rule.specs.Diagram.{asking}
 use Rattle.rule.specs.Reduced.{DrawnAs}
 use Rattle.rule.specs.Demands.{Fit, EquallyMany}
 use Rattle.theory.proofs.Orders.{fit-order-is}
-use Rattle.theory.proofs.Reach.{Diagram}
-use Rattle.theory.proofs.Reduced.{reduced-diagram}
+use Rattle.theory.proofs.Reduced.{drawn-diagram}
 use Rattle.theory.proofs.Counting.{asking-level, used-size, friedman-asking}
-
-pub drawn-diagram : {n used root : ℕ} {order t c : List ℕ} → DrawnAs n order t c used root → Diagram n order c used root
-drawn-diagram {n} {used} {root} {order} {t} {c} x = reduced-diagram n order c used root (x .ordered) (x .reduced)
 
 pub counts : (n : ℕ) (order t : List ℕ) → Fit n order t → (c : List ℕ) (used root : ℕ) → DrawnAs n order t c used root → used ≡ size (flags n order) t
 counts n order t f c used root x =

@@ -21,7 +21,8 @@ use Rattle.rule.specs.History.{Book, inBook}
 use Rattle.rule.specs.Demands.{Gives, RuleKept, Demand3}
 use Rattle.theory.proofs.Tests.{and-split}
 use Rattle.theory.proofs.Walks.{table-row}
-use Rattle.demands.proofs.Stands.{accepted-reply, accepted-zero, passed}
+use Rattle.theory.proofs.Refused.{passed}
+use Rattle.demands.proofs.Stands.{accepted-reply, accepted-zero}
 use Rattle.demands.proofs.Counts.{equally}
 use Rattle.demands.proofs.Packed.{packed-well}
 use Rattle.demands.proofs.Beside.{After, live, shut, steps-from-open}

@@ -6,6 +6,7 @@ pub mod Needs
 pub mod Suffices
 pub mod Same
 pub mod Reader
+pub mod OneSequence
 pub mod FileBytes
 pub mod SameCells
 pub mod ReadBack

@@ -27,7 +27,7 @@ use Rattle.theory.proofs.Cofactor.{length-cofactor, row-lt, cofactor-rows}
 use Rattle.theory.proofs.Sound.{sound-shape}
 use Rattle.theory.proofs.Walks.{smaller, length-tabled, length-table, fit-table}
 use Rattle.theory.proofs.Orders.{fit-order-is, packed-fewest}
-use Rattle.demands.proofs.Stands.{Passed}
+use Rattle.theory.proofs.Refused.{Passed}
 use Rattle.demands.proofs.Counts.{counts}
 use Rattle.demands.proofs.Needs.{needs}
 

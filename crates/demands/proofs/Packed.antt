@@ -2,7 +2,7 @@
 -- Assumes nothing.
 use mathlib.Core.Path.{_≡_, refl, sym, _∙_}
 use mathlib.Core.Bool.{true}
-use mathlib.Core.List.{List, [], _∷_}
+use mathlib.Core.List.{List, _∷_}
 use Prim.Native.Nat.{ℕ, _≤_}
 use native.Mathlib.Omega.{arith}
 use borrow.Author.Tests.{ltb-false, not-false}
@@ -14,7 +14,8 @@ use Rattle.rule.specs.Reply.{Reply}
 use Rattle.rule.specs.Calls.{Pack}
 use Rattle.rule.specs.Demands.{Fit, Gives, PackedWell, PackedOrder}
 use Rattle.theory.proofs.Orders.{fit-order-is, packed-flags, packed-fewest, packed-first}
-use Rattle.demands.proofs.Stands.{accepted-reply, passed, packs}
+use Rattle.theory.proofs.Refused.{passed}
+use Rattle.demands.proofs.Stands.{accepted-reply, packs}
 use Rattle.demands.proofs.Counts.{counts}
 
 module _ {n nodes root : ℕ} {t order c w d x : List ℕ} {r : Reply} (b : Pack n t c w r d x) (g : Gives r (nodes ∷ root ∷ order)) where

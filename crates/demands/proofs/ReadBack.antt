@@ -20,7 +20,7 @@ use Rattle.rule.specs.Files.{flagsBit, orderBit, labelBit, recordsBit, yesBit, 
 use Rattle.cursor.proofs.Head.{flags-read}
 use Rattle.fields.proofs.Fields.{order-read, label-read, records-many, records-read}
 use Rattle.encoding.proofs.Puts.{length-bytes}
-use Rattle.demands.proofs.Stands.{Passed, none-applies}
+use Rattle.theory.proofs.Refused.{Passed, none-applies}
 use Rattle.demands.proofs.FileBytes.{places-back, behind, two-at, records-at}
 
 -- a field is read where none of its rows applies

@@ -23,7 +23,8 @@ use Rattle.theory.proofs.Orders.{fit-order-is}
 use Rattle.theory.proofs.Sound.{sound-shape}
 use Rattle.theory.proofs.Walks.{smaller, table-row}
 use Rattle.theory.proofs.Asked.{passed-alike, asked-flags, asked-once-each, asked-most, asked-in}
-use Rattle.demands.proofs.Stands.{accepted-zero, Passed, passed, none-applies}
+use Rattle.theory.proofs.Refused.{Passed, passed, none-applies}
+use Rattle.demands.proofs.Stands.{accepted-zero}
 
 -- an accepted walk, by the tests that it passed
 module _ (n used m row : ℕ) (order c : List ℕ) (z : refusal (walkRows n order c used m row) ≡ 0) where

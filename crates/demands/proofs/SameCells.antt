@@ -8,6 +8,7 @@ use lib.Dec.{eqb}
 use lib.ListN.{getD}
 use Rattle.rule.specs.Cells.{width, room, flagAt, lowAt, highAt, recordOf, isEnd, recordsIn}
 use Rattle.rule.specs.Diagram.{reachIn, diagram}
+use Rattle.rule.specs.Sequence.{precedes, inSequence}
 use Rattle.theory.proofs.Reach.{diagram-view, view-diagram}
 
 module _ (c d : List ℕ) (same : (i : ℕ) → getD d i 0 ≡ getD c i 0) where
@@ -25,6 +26,11 @@ module _ (c d : List ℕ) (same : (i : ℕ) → getD d i 0 ≡ getD c i 0) where
 
   pub records-same : (k : ℕ) → recordsIn d k ≡ recordsIn c k
   records-same k = simp (flag-same, low-same, high-same)
+
+  -- so they stand in sequence together
+  pub sequence-same : (n : ℕ) (order : List ℕ) (used : ℕ) → inSequence n order d used ≡ inSequence n order c used
+  unfolding inSequence precedes
+  sequence-same n order used = simp (flag-same, low-same, high-same)
 
   reach-same : (steps top m : ℕ) → reachIn steps d top m ≡ reachIn steps c top m
   unfolding reachIn

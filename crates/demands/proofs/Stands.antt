@@ -6,27 +6,29 @@ use mathlib.Core.List.{List, [], _∷_}
 use Prim.Native.Nat.{ℕ, zero, suc, _+_, _^_, _≤_}
 use native.Mathlib.Omega.{arith}
 use borrow.Author.Tests.{ltb-false, le-ltb, leb-true, le-leb, eq-eqb, not-false}
-use lib.Dec.{leb, ltb}
+use lib.Dec.{leb}
 use lib.ListN.{length}
 use Rattle.rule.specs.Table.{fitLength}
 use Rattle.rule.specs.Level.{size}
 use Rattle.rule.specs.Order.{places, flags, fitOrder, inPlaces, packed}
-use Rattle.rule.specs.Cells.{fitCells}
+use Rattle.rule.specs.Cells.{fitCells, room}
 use Rattle.rule.specs.Walk.{tableOf}
 use Rattle.rule.specs.Sound.{sound}
 use Rattle.rule.specs.Diagram.{allReached, diagram}
+use Rattle.rule.specs.Sequence.{drawing}
 use Rattle.rule.specs.Results.{rootBy}
-use Rattle.rule.specs.Refusals.{Row, refusal, buildRows, checkRows, tabulateRows, packRows}
+use Rattle.rule.specs.Refusals.{refusal, buildRows, checkRows, tabulateRows, packRows}
 use Rattle.rule.specs.Reply.{Reply, reply, Accepted, leaves}
-use Rattle.rule.specs.Calls.{Draws, DrawsOr, Build, Check, Pack}
+use Rattle.rule.specs.Calls.{Build, Check, Pack}
 use Rattle.rule.specs.Files.{writeRows, Writes}
-use Rattle.rule.specs.Demands.{StandsFor, Gives}
+use Rattle.rule.specs.Demands.{Fit, StandsFor, Gives}
 use Rattle.theory.proofs.Tests.{and-split, and-join}
-use Rattle.theory.proofs.Reach.{diagram-view}
+use Rattle.theory.proofs.Reach.{diagram-view, view-diagram}
 use Rattle.theory.proofs.Sound.{shape-sound}
 use Rattle.theory.proofs.Reduced.{diagram-reduced}
-use Rattle.theory.proofs.Refused.{numbered, row-passed}
-use Rattle.theory.proofs.Orders.{packed-fit, packed-flags}
+use Rattle.theory.proofs.Refused.{Passed, passed}
+use Rattle.theory.proofs.Drawing.{drawing-length, drawn-whole, drawn-table}
+use Rattle.theory.proofs.Orders.{in-places-length, packed-fit, packed-flags}
 
 -- a reply that is accepted: there was no refusal, and the values are the call's
 pub accepted-reply : (k : ℕ) {r : Reply} {values given : List ℕ} → r ≡ reply k values → Gives r given → (k ≡ 0) × (values ≡ given)
@@ -36,20 +38,6 @@ accepted-reply (suc k) e q = let z : _≡_ {A = ℕ} 0 1 = cc in absurd (omega a
 pub accepted-zero : (k : ℕ) (values : List ℕ) {r : Reply} → r ≡ reply k values → Accepted r → k ≡ 0
 accepted-zero zero values e h = refl
 accepted-zero (suc k) values e h = absurd (rw e at h)
-
--- no row applies
-abbrev pub Passed : List Row → Type 0
-Passed [] = Unit {0}
-Passed (row ∷ rows) = (row .0 ≡ false) × Passed rows
-
-pub passed : (rows : List Row) → numbered rows ≡ true → refusal rows ≡ 0 → Passed rows
-passed [] h e = tt
-passed ((b, zero) ∷ rows) h e = let z : _≡_ {A = ℕ} 0 1 = cc in absurd (omega arith)
-passed ((b, suc k) ∷ rows) h e = let (p, q) = row-passed b k rows e in (p, passed rows (and-split (ltb 0 (suc k)) (numbered rows) h .1) q)
-
-pub none-applies : (rows : List Row) → Passed rows → refusal rows ≡ 0
-none-applies [] p = refl
-none-applies (row ∷ rows) (e, p) = rw e (none-applies rows p)
 
 module _ (n : ℕ) (order c : List ℕ) (used root : ℕ) (few : n ≤ 10) (o : fitOrder n order ≡ true) (f : fitCells c ≡ true)
     (d : diagram n order c used root ≡ true) where
@@ -80,36 +68,76 @@ module _ (n : ℕ) (order c : List ℕ) (used root : ℕ) (few : n ≤ 10) (o : 
       }
 
 -- so does a table's drawing
-drawing : (n : ℕ) (order t c d : List ℕ) → n ≤ 10 → fitOrder n order ≡ true → fitCells c ≡ true → Draws n order t c d
-    → StandsFor n order t d (size (flags n order) t) (rootBy (size (flags n order) t) t)
+drawing-stands : {n : ℕ} {order t : List ℕ} → Fit n order t → (c : List ℕ) → fitCells c ≡ true → size (flags n order) t ≤ room c
+    → StandsFor n order t (drawing n order t c) (size (flags n order) t) (rootBy (size (flags n order) t) t)
 unfolding fitCells
-drawing n order t c d few o f x =
-    subst (λ (u : List ℕ). StandsFor n order u d (size (flags n order) t) (rootBy (size (flags n order) t) t)) (x .table)
-    (stands n order d _ _ few o (rw (x .lent) f) (x .is-diagram))
+drawing-stands {n} {order} {t} f c lent space =
+    subst (λ (u : List ℕ). StandsFor n order u (drawing n order t c) (size (flags n order) t) (rootBy (size (flags n order) t) t)) (drawn-table f c space)
+    (stands n order (drawing n order t c) _ _ (f .few) (f .order-fits) (rw (drawing-length n order t c) lent)
+    (view-diagram n order (drawing n order t c) _ _ (drawn-whole f c space)))
 
-pub built : (n nodes root : ℕ) (t order c d : List ℕ) (r : Reply) → length order ≡ places → Build n t order c r d → Gives r (nodes ∷ root ∷ [])
-    → StandsFor n order t d nodes root
-built n nodes root t order c d r l b g =
+-- cells d that are the drawing of t in cells that hold it, with its node count and root
+pub record IsDrawing (n : ℕ) (order t : List ℕ) (used root : ℕ) (d : List ℕ) : Type 0 where
+  pub fit : Fit n order t
+  pub cells : List ℕ
+  pub lent : fitCells cells ≡ true
+  pub space : size (flags n order) t ≤ room cells
+  pub used-is : used ≡ size (flags n order) t
+  pub root-is : root ≡ rootBy (size (flags n order) t) t
+  pub drawn : d ≡ drawing n order t cells
+
+pub is-drawing-stands : {n used root : ℕ} {order t d : List ℕ} → IsDrawing n order t used root d → StandsFor n order t d used root
+is-drawing-stands x = rw (x .used-is, x .root-is, x .drawn) (drawing-stands (x .fit) (x .cells) (x .lent) (x .space))
+
+-- an accepted build left it
+pub built-drawing : (n nodes root : ℕ) (t order c d : List ℕ) (r : Reply) → length order ≡ places → Build n t order c r d → Gives r (nodes ∷ root ∷ [])
+    → IsDrawing n order t nodes root d
+built-drawing n nodes root t order c d r l b g =
     let (z, v) = accepted-reply (refusal (buildRows n t order c)) (b .answer) g in
-    let (few, (_, (_, (o, (f, _))))) = passed (buildRows n t order c) refl z in
-    let nodes-is : nodes ≡ size (flags n order) t = cc in
-    let root-is : root ≡ rootBy (size (flags n order) t) t = cc in
-    rw (nodes-is, root-is)
-    (drawing n order t c d (ltb-false 10 n few) (not-false _ o) (not-false _ f) (subst (λ (k : ℕ). DrawsOr k n order t c d) z (b .cells)))
+    let (few, (rows, (bits, (o, (f, (m, _)))))) = passed (buildRows n t order c) refl z in
+    record {
+      fit = record { few = ltb-false 10 n few; kept-in = l; order-fits = not-false _ o; rows = not-false _ rows; bits = not-false _ bits };
+      cells = c;
+      lent = not-false _ f;
+      space = ltb-false _ _ m;
+      used-is = cc;
+      root-is = cc;
+      drawn = b .cells ∙ ap (λ (k : ℕ). leaves k (drawing n order t c) c) z;
+    }
 
-pub packs : (n nodes root : ℕ) (t order c w d x : List ℕ) (r : Reply) → Pack n t c w r d x → Gives r (nodes ∷ root ∷ order) → StandsFor n order t d nodes root
-packs n nodes root t order c w d x r b g =
+-- and so did an accepted pack, under its order
+pub packed-drawing : (n nodes root : ℕ) (t order c w d x : List ℕ) (r : Reply) → Pack n t c w r d x → Gives r (nodes ∷ root ∷ order)
+    → IsDrawing n order t nodes root d
+packed-drawing n nodes root t order c w d x r b g =
     let (z, v) = accepted-reply (refusal (packRows n t c w)) (b .answer) g in
-    let (p, (_, (_, (f, _)))) = passed (packRows n t c w) refl z in
+    let (p, (rows, (bits, (f, (_, (m, _)))))) = passed (packRows n t c w) refl z in
     let few = ltb-false 10 n p in
     let nodes-is : nodes ≡ size (packed n t) t = cc in
     let root-is : root ≡ rootBy (size (packed n t) t) t = cc in
     let order-is : order ≡ inPlaces (packed n t) = cc in
-    let s =
-    drawing n (inPlaces (packed n t)) t c d few (packed-fit n t few) (not-false _ f)
-    (subst (λ (k : ℕ). DrawsOr k n (inPlaces (packed n t)) t c d) z (b .cells)) in
-    rw (nodes-is, root-is, order-is)
-    (subst (λ (o : List ℕ). StandsFor n (inPlaces (packed n t)) t d (size o t) (rootBy (size o t) t)) (packed-flags n t few) s)
+    let same : flags n order ≡ packed n t = ap (flags n) order-is ∙ packed-flags n t few in
+    record {
+      fit = record {
+        few = few;
+        kept-in = ap length order-is ∙ in-places-length (packed n t);
+        order-fits = ap (fitOrder n) order-is ∙ packed-fit n t few;
+        rows = not-false _ rows;
+        bits = not-false _ bits;
+      };
+      cells = c;
+      lent = not-false _ f;
+      space = rw same (ltb-false _ _ m);
+      used-is = rw same nodes-is;
+      root-is = rw same root-is;
+      drawn = b .cells ∙ ap (λ (k : ℕ). leaves k (drawing n (inPlaces (packed n t)) t c) c) z ∙ ap (λ (o : List ℕ). drawing n o t c) (sym order-is);
+    }
+
+pub built : (n nodes root : ℕ) (t order c d : List ℕ) (r : Reply) → length order ≡ places → Build n t order c r d → Gives r (nodes ∷ root ∷ [])
+    → StandsFor n order t d nodes root
+built n nodes root t order c d r l b g = is-drawing-stands (built-drawing n nodes root t order c d r l b g)
+
+pub packs : (n nodes root : ℕ) (t order c w d x : List ℕ) (r : Reply) → Pack n t c w r d x → Gives r (nodes ∷ root ∷ order) → StandsFor n order t d nodes root
+packs n nodes root t order c w d x r b g = is-drawing-stands (packed-drawing n nodes root t order c w d x r b g)
 
 -- the test of a diagram's records, with a root up to the last
 neither : (s a : Bool) → (not s || (true && not a)) ≡ false → (s ≡ true) × (a ≡ true)

@@ -29,12 +29,12 @@ use Rattle.theory.specs.Shape.{Shaped}
 use Rattle.theory.proofs.Sound.{sound-shape, shape-sound}
 use Rattle.theory.proofs.Walks.{node, smaller, table-kept}
 use Rattle.theory.proofs.Canonical.{level-end, level-record, child-later, mix, table-mix, canonical, asks, depends-asks}
+use Rattle.theory.proofs.Reduced.{drawn-diagram}
 use Rattle.theory.proofs.Counting.{record-node}
 use Rattle.theory.proofs.Needed.{needed-least, needed-most}
 use Rattle.record_index.specs.Find.{None}
 use Rattle.cells.proofs.Added.{Added, longer, added-longer}
 use Rattle.unique.proofs.Extend.{Allowed, extended}
-use Rattle.demands.proofs.Counts.{drawn-diagram}
 use Rattle.demands.proofs.Exists.{exists}
 
 -- a node stands later than a flag if a node of the same table does, in whichever cells

@@ -21,3 +21,10 @@ pub fn walked(answer: u8, asked: u16, count: u8) -> u64
 {
     coded(0, answer as u16, asked, count as u16)
 }
+
+// What an accepted read hands back, but for the order.
+pub fn loaded(n: u8, records: u16, root: u16) -> u64
+    ensures { λ r. ⌜ r ≡ word 0 n records root ⌝ }
+{
+    coded(0, n as u16, records, root)
+}

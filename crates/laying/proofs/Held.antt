@@ -22,7 +22,7 @@ use Rattle.cursor.specs.Step.{readingOf, outcomeOf, mapRead}
 use Rattle.cursor.proofs.Stepped.{then-then, refused-stays, refused-alone}
 use Rattle.fields.specs.Fields.{Whole, fieldsRead}
 use Rattle.laying.specs.Aside.{Tested}
-use Rattle.cells.proofs.Laid.{laid-length}
+use Rattle.theory.proofs.Laying.{laid-length}
 
 -- ---- the fields
 
@@ -94,9 +94,6 @@ module _ (c file : List ℕ) (x : Cursor) (whole : length file ≤ x .at) {m roo
 pub most-held : {held : List ℕ} → held ≡ replicate mostCells 0 → length held ≡ mostCells
 most-held e = ap length e ∙ length-replicate {A = ℕ} mostCells 0
 
-pub whole-many : (c file : List ℕ) (x : Cursor) → Whole c file x → length (readingOf file x .records) ≤ room c
-whole-many c file x w = rw (length-below (recordAt file (x .records)) (x .count)) (w .held)
-
 module _ (c : List ℕ) (fit : fitCells c ≡ true) {held : List ℕ} (e : held ≡ replicate mostCells 0) where
   pub first-held : take (length c - 0) held ≡ replicate (length c) 0
   first-held = rw (e, sub-zero) (take-zeros (length c) mostCells (fit-length c fit))
@@ -115,9 +112,9 @@ module _ (c : List ℕ) (fit : fitCells c ≡ true) {held : List ℕ} (e : held 
   pub held-zeros : take (length c - 0) held ≡ replicate (length (take (length c - 0) held)) 0
   held-zeros = first-held ∙ ap (λ (k : ℕ). replicate k 0) (sym first-lent)
 
-  module _ (rs : List RecordValues) {d : List ℕ} (laid : d ≡ laidIn (take (length c - 0) held) rs) (h : length rs ≤ room c) where
+  module _ (rs : List RecordValues) {d : List ℕ} (laid : d ≡ laidIn (take (length c - 0) held) rs) where
     laid-first : length d ≡ length c
-    laid-first = ap length laid ∙ laid-length (take (length c - 0) held) rs (rw first-lent h) ∙ first-lent
+    laid-first = ap length laid ∙ laid-length (take (length c - 0) held) rs ∙ first-lent
 
     pub most-laid : length (d ++ drop (length c - 0) held) ≡ mostCells
     most-laid =

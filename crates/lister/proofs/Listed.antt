@@ -19,10 +19,12 @@ use Rattle.rule.specs.Diagram.{asking}
 use Rattle.rule.specs.Refusals.{refusal, packRows}
 use Rattle.rule.specs.Reply.{accepted, refused}
 use Rattle.rule.specs.Results.{rootBy}
-use Rattle.rule.specs.Calls.{Draws, Pack}
+use Rattle.rule.specs.Sequence.{drawing}
+use Rattle.rule.specs.Calls.{Pack}
 use Rattle.rule.specs.Demands.{Fit}
 use Rattle.rule.specs.Listing.{mostRows, isDigit, flagsOf, rowsOf, lineRows, workspaceCells, shortWorkspace, listingRows, wordLine, askingPacked, listed, listedOr}
 use Rattle.theory.proofs.Refused.{row-passed, refused-more, passed-more, refused-is, accepted-is}
+use Rattle.theory.proofs.Drawing.{drawing-length}
 use Rattle.theory.proofs.Orders.{packed-fit, packed-flags}
 use Rattle.demands.proofs.Exists.{size-few}
 use Rattle.demands.proofs.Counts.{asks}
@@ -114,8 +116,8 @@ module _ (n : ℕ) (t c w : List ℕ) (few : n ≤ 10) (rows : length t ≡ 2 ^ 
 
     pub packed-room : nodes ≤ room d
     packed-room =
-        let drawn : Draws n (inPlaces (packed n t)) t c d = rw (values .0) at (p .cells) in
-        omega (arith, nodes-are, size-room, drawn .lent)
+        let drawn : d ≡ drawing n (inPlaces (packed n t)) t c = rw (values .0) at (p .cells) in
+        omega (arith, nodes-are, size-room, ap length drawn, drawing-length n (inPlaces (packed n t)) t c)
 
     flags-are : flags n o ≡ packed n t
     flags-are = ap (flags n) order-is ∙ packed-flags n t few

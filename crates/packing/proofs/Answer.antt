@@ -1,25 +1,26 @@
 -- Pack's answer, from the tests, the search and build's own answer.
 -- Assumes nothing.
-use mathlib.Core.Path.{_≡_, refl, sym, ap, ap₂, subst, _∙_}
+use mathlib.Core.Path.{_≡_, refl, sym, ap, ap₂, _∙_}
 use mathlib.Core.Bool.{Bool, true, false, not, _&&_}
 use mathlib.Core.List.{List, [], _∷_, _++_, map}
-use Prim.Native.Nat.{ℕ, zero, suc, _^_, _≤_, _<_}
+use Prim.Native.Nat.{ℕ, _^_, _≤_, _<_}
 use native.Mathlib.Nat.{sub-zero}
 use native.Mathlib.Omega.{arith}
 use borrow.Author.Tests.{ltb-true, ltb-false, eqb-true, not-false, lt-ltb, le-ltb, eq-eqb, ne-eqb}
 use lib.Dec.{ltb}
-use lib.ListN.{length, replicate, length-append, length-take, length-replicate}
+use lib.ListN.{length, replicate}
 use Rattle.rule.specs.Table.{fitLength, fitRows}
 use Rattle.rule.specs.Level.{size}
 use Rattle.rule.specs.Order.{flags, inPlaces, packed, fitOrder}
 use Rattle.rule.specs.Cells.{fitCells, room}
 use Rattle.rule.specs.Refusals.{Row, refusal, firstElse, flagCount, tableLength, tableRead, cells, workspace, result, buildRows, packRows}
-use Rattle.rule.specs.Reply.{accepted, refused, reply}
+use Rattle.rule.specs.Reply.{accepted, refused, reply, leaves}
 use Rattle.rule.specs.Results.{rootBy}
-use Rattle.rule.specs.Calls.{DrawsOr, Build, Pack, workspaceAfter}
-use Rattle.theory.proofs.Orders.{packed-flags, packed-fit}
+use Rattle.rule.specs.Sequence.{drawing}
+use Rattle.rule.specs.Calls.{Build, Pack, workspaceAfter}
+use Rattle.theory.proofs.Orders.{in-places-length, packed-flags, packed-fit}
 use Rattle.theory.proofs.Tests.{and-split}
-use Rattle.theory.proofs.Refused.{row-passed, refused-more, passed-more, refused-reply, refused-is, accepted-is}
+use Rattle.theory.proofs.Refused.{row-passed, refused-more, passed-more, refused-reply, refused-kept, refused-is, accepted-is}
 use Rattle.cells.specs.Record.{clearFrom}
 use Rattle.packing.specs.Lent.{lentRows}
 
@@ -78,10 +79,6 @@ refusal-small ((false, k) ∷ rows) e = refusal-small rows (and-split (ltb k 10)
 workspace-kept : (k : ℕ) (w : List ℕ) → (k ≡ 0 → ⊥) → k < 10 → w ≡ workspaceAfter k w
 workspace-kept k w d h = rw (ne-eqb k 0 d, ne-eqb k 10 (λ q. omega arith))
 
-cells-kept : (k n : ℕ) (o t c : List ℕ) → (k ≡ 0 → ⊥) → DrawsOr k n o t c c
-cells-kept zero n o t c d = absurd (d refl)
-cells-kept (suc k) n o t c d = refl
-
 -- ---- the zeros of a refusal
 
 zeros : (l : List ℕ) → map {B = ℕ} (λ v. 0) l ≡ replicate (length l) 0
@@ -89,10 +86,7 @@ zeros [] = refl
 zeros (x ∷ l) = ap {B = List ℕ} (λ m. 0 ∷ m) (zeros l)
 
 zero-places : (o : List ℕ) → map {B = ℕ} (λ v. 0) (inPlaces o) ≡ replicate 10 0
-zero-places o = zeros (inPlaces o) ∙ ap (λ (k : ℕ). replicate {A = ℕ} k 0) ten
-  where
-    ten : length (inPlaces o) ≡ 10
-    ten = simp (length-take, length-append, length-replicate) (omega arith)
+zero-places o = zeros (inPlaces o) ∙ ap (λ (k : ℕ). replicate {A = ℕ} k 0) (in-places-length o)
 
 -- ---- the answer
 
@@ -101,12 +95,12 @@ module _ (n : ℕ) (t c w : List ℕ) where
   values = size (packed n t) t ∷ rootBy (size (packed n t) t) t ∷ inPlaces (packed n t)
 
   -- "A refusal hands back its number and zeros"
-  under : (k : ℕ) (d x : List ℕ) → (k ≡ 0 → ⊥) → k ≡ refusal (packRows n t c w) → DrawsOr k n (inPlaces (packed n t)) t c d → x ≡ workspaceAfter k w
+  under : (k : ℕ) (d x : List ℕ) → (k ≡ 0 → ⊥) → k ≡ refusal (packRows n t c w) → d ≡ leaves k (drawing n (inPlaces (packed n t)) t c) c → x ≡ workspaceAfter k w
       → Pack n t c w (refused k (0 ∷ 0 ∷ replicate 10 0)) d x
   under k d x h e q s =
       record {
         answer = ap (λ (z : List ℕ). refused k (0 ∷ 0 ∷ z)) (sym (zero-places (packed n t))) ∙ refused-reply k values h ∙ ap (λ (i : ℕ). reply i values) e;
-        cells = subst (λ (i : ℕ). DrawsOr i n (inPlaces (packed n t)) t c d) e q;
+        cells = q ∙ ap (λ (i : ℕ). leaves i (drawing n (inPlaces (packed n t)) t c) c) e;
         workspace = s ∙ ap (λ (i : ℕ). workspaceAfter i w) e;
       }
 
@@ -114,7 +108,7 @@ module _ (n : ℕ) (t c w : List ℕ) where
   pub refused-early : {k : ℕ} → k ≡ refusal (lentRows n t c w) → (k ≡ 0 → ⊥) → Pack n t c w (refused k (0 ∷ 0 ∷ replicate 10 0)) c w
   refused-early {k} e d =
       under k c w d (e ∙ refused-more (lentRows n t c w) (result (size (packed n t) t) (room c) ∷ []) (λ q. d (e ∙ q)))
-      (cells-kept k n (inPlaces (packed n t)) t c d)
+      (refused-kept k (drawing n (inPlaces (packed n t)) t c) c d)
       (workspace-kept k w d (omega (arith, refusal-small (lentRows n t c w) refl)))
 
   -- the search has found its order
@@ -154,7 +148,7 @@ module _ (n : ℕ) (t c w : List ℕ) where
     refused-late {i} {d} {x} y l k b =
         let (q, h) = refused-is i _ (0 ∷ 0 ∷ []) (size (flags n o) t ∷ rootBy (size (flags n o) t) t ∷ []) (b .answer) in
         under i d x (λ j. h (sym q ∙ j)) (q ∙ same-refusal)
-        (subst (λ (p : List ℕ). DrawsOr i n p t c d) found (subst (λ (j : ℕ). DrawsOr j n o t c d) (sym q) (b .cells)))
+        (b .cells ∙ ap₂ (λ (j : ℕ) (p : List ℕ). leaves j (drawing n p t c) c) (sym q) found)
         (k ∙ cleared y l ∙ ap (λ (j : ℕ). workspaceAfter j w) (sym (q ∙ same-refusal)))
 
     pub packed-drawn : {nodes root : ℕ} {d x : List ℕ} (y : List ℕ) → length y ≡ length w → x ≡ clearFrom y 0 → Build n t o c (accepted (nodes ∷ root ∷ [])) d
@@ -165,6 +159,6 @@ module _ (n : ℕ) (t c w : List ℕ) where
         let two : nodes ∷ root ∷ [] ≡ size (packed n t) t ∷ rootBy (size (packed n t) t) t ∷ [] = rw same-flags at v in
         record {
           answer = ap₂ (λ (xs p : List ℕ). accepted (xs ++ p)) two found ∙ ap (λ (i : ℕ). reply i values) (sym none);
-          cells = subst (λ (p : List ℕ). DrawsOr (refusal (packRows n t c w)) n p t c d) found (subst (λ (j : ℕ). DrawsOr j n o t c d) same-refusal (b .cells));
+          cells = b .cells ∙ ap₂ (λ (j : ℕ) (p : List ℕ). leaves j (drawing n p t c) c) same-refusal found;
           workspace = k ∙ cleared y l;
         }

@@ -40,7 +40,7 @@ rows-length line = length-map line (λ b. b - 48)
 -- ---- read one by one
 
 pub digit-at : (line : List ℕ) (i : ℕ) → each isDigit line ≡ true → i < length line → 48 ≤ getD line i 0
-digit-at line i h l = digit-range (getD line i 0) (each-in isDigit line h (at-in line i l)) .0
+digit-at line i h l = digit-range (getD line i 0) (each-in isDigit line h (at-in 0 line i l)) .0
 
 -- the first i rows are read
 abbrev pub Read : List ℕ → List ℕ → ℕ → Type 0

@@ -7,7 +7,7 @@ use rule::Read;
 ghost use Rattle.rule.specs.Answers.{loadedReply};
 ghost use Rattle.rule.specs.Files.{Reads, Label};
 
-// Read: n, the order, the record count and the root, with the records in the cells; or why the file is none.
+// Read: n, the order, the record count and the root, with the records in sequence in the cells; or why the file is none.
 pub fn read(file: &[u8], cells: &mut [u16]) -> Read
     ensures { λ r. ⌜ Reads (now (file .entry)) (now (cells .entry)) (loadedReply (r .order) (r .answer)) (now (cells .exit)) ⌝ }
 {
@@ -24,12 +24,13 @@ pub fn read(file: &[u8], cells: &mut [u16]) -> Read
     let order = cursor.order;
     let count = cursor.count;
     let root = root_of(bit_map(file), count);
+    let n = cursor.n;
     let len = cells.len();
-    cells::copy(&held[0..len], cells);
+    sequencing::sequence(n, order, &held[0..len], count, cells);
     Read {
         order,
         answer: Loaded::Rule {
-            n: cursor.n,
+            n,
             records: count,
             root,
         },

@@ -12,11 +12,12 @@ use Rattle.rule.specs.Cells.{fitCells, flagAt, lowAt, highAt, recordCell
 use Rattle.rule.specs.Walk.{step, walkIn, passedIn}
 use Rattle.rule.specs.Sound.{flagsBelow, childrenDiffer, childrenSmaller, asksLater, childrenLater, sameRecord, noneEqual, restClear, laid, shaped, sound}
 use Rattle.rule.specs.Diagram.{reachIn, allReached, diagram}
+use Rattle.rule.specs.Sequence.{rises, precedes, inSequence, insert, sorted, place, risesIn, rulesFrom, firstAsked, ruleRecord, recordsOf, drawing}
 use Rattle.rule.specs.Files.{unless, readMap, readFlags, readOrder, readLabel, readRecords, readEnd, reading, fileOf}
 use Rattle.rule.specs.Text.{text, decimalIn, readLine}
 use Rattle.rule.specs.Listing.{flagsFrom, numbers, flagLines, listed, listing}
 use Rattle.rule.specs.Examples.{holds, examples}
 
 pub examples-hold : each holds examples ≡ true
-unfolding bit setBit from each keep same among cofactor depends fixings distinct levelNodes nodesFrom times eachOnce restZero fitOrder askedBefore picks gather ordersOf firstLeast leastOf rank packed fitCells flagAt lowAt highAt flagSet step walkIn passedIn flagsBelow childrenDiffer childrenSmaller asksLater childrenLater sameRecord noneEqual restClear laid shaped sound reachIn allReached diagram unless readMap readFlags readOrder readLabel readRecords recordCells readEnd reading fileOf text decimalIn readLine flagsFrom numbers flagLines listed listing holds examples
+unfolding bit setBit from each keep same among cofactor depends fixings distinct levelNodes nodesFrom times eachOnce restZero fitOrder askedBefore picks gather ordersOf firstLeast leastOf rank packed fitCells flagAt lowAt highAt flagSet step walkIn passedIn flagsBelow childrenDiffer childrenSmaller asksLater childrenLater sameRecord noneEqual restClear laid shaped sound reachIn allReached diagram rises precedes inSequence insert sorted place risesIn rulesFrom firstAsked ruleRecord recordsOf drawing unless readMap readFlags readOrder readLabel readRecords recordCells readEnd reading fileOf text decimalIn readLine flagsFrom numbers flagLines listed listing holds examples
 examples-hold = refl

@@ -1,6 +1,7 @@
 -- Each call's outcome: a relation between what it is given and what it leaves, accepted or refused (document 01). A call's contract is exactly its
--- relation here, at its answer's reply; the file calls are in Files.antt. What the paper leaves free is the sequence of records, with the node numbers that
--- follow from it. Buffers that are lent to be read alone (a table, the cells of check, walk and tabulate) stay as they are: the language sees to it.
+-- relation here, at its answer's reply; the file calls are in Files.antt. What the papers leave free is the sequence of a store's records, with the node
+-- numbers that follow from it. Buffers that are lent to be read alone (a table, the cells of check, walk and tabulate) stay as they are: the language sees to
+-- it.
 -- Assumes nothing.
 use mathlib.Core.Path.{_≡_}
 use mathlib.Core.Bool.{true, cond, _||_}
@@ -14,28 +15,17 @@ use Rattle.rule.specs.Order.{flags, inPlaces, packed}
 use Rattle.rule.specs.Cells.{width}
 use Rattle.rule.specs.Walk.{tableOf}
 use Rattle.rule.specs.Sound.{sound}
-use Rattle.rule.specs.Diagram.{diagram}
+use Rattle.rule.specs.Sequence.{drawing}
 use Rattle.rule.specs.Results.{Making, flag, join, choose, fix, madeIn, lacking, needed, rootBy, madeNode, Query, tabulating, walking, answered}
 use Rattle.rule.specs.Refusals.{refusal, buildRows, checkRows, queryRows, openRows, constantRows, makingRows, packRows}
 use Rattle.rule.specs.Reply.{Reply, reply, leaves}
 
 -- ---- single diagrams
 
--- the cells d, once c, hold the diagram of t under the order and nothing else: "Cells past an accepted result are 0" is part of sound
-pub record Draws (n : ℕ) (order t c d : List ℕ) : Type 0 where
-  pub lent : length d ≡ length c
-  pub is-diagram : diagram n order d (size (flags n order) t) (rootBy (size (flags n order) t) t) ≡ true
-  pub table : tableOf n d (rootBy (size (flags n order) t) t) ≡ t
-
--- what becomes of lent cells that a diagram is to be drawn in, under a refusal's number
-abbrev pub DrawsOr : ℕ → ℕ → List ℕ → List ℕ → List ℕ → List ℕ → Type 0
-DrawsOr zero n order t c d = Draws n order t c d
-DrawsOr (suc k) n order t c d = d ≡ c
-
--- "Build takes n, a table, an order and cells, and hands back the node count and the root, with the diagram in the cells."
+-- "Build takes n, a table, an order and cells, and hands back the node count and the root, with the diagram in the cells": in the one sequence (request 3)
 pub record Build (n : ℕ) (t order c : List ℕ) (r : Reply) (d : List ℕ) : Type 0 where
   pub answer : r ≡ reply (refusal (buildRows n t order c)) (size (flags n order) t ∷ rootBy (size (flags n order) t) t ∷ [])
-  pub cells : DrawsOr (refusal (buildRows n t order c)) n order t c d
+  pub cells : d ≡ leaves (refusal (buildRows n t order c)) (drawing n order t c) c
 
 -- "Check takes n, an order, cells, the number of used records and a root, and hands back the node count."
 abbrev pub Check : ℕ → List ℕ → List ℕ → ℕ → ℕ → Reply → Type 0
@@ -146,5 +136,5 @@ workspaceAfter k w = cond (eqb k 0 || eqb k 10) (replicate (length w) 0) w
 pub record Pack (n : ℕ) (t c w : List ℕ) (r : Reply) (d x : List ℕ) : Type 0 where
   pub answer : r
       ≡ reply (refusal (packRows n t c w)) (size (packed n t) t ∷ rootBy (size (packed n t) t) t ∷ inPlaces (packed n t))
-  pub cells : DrawsOr (refusal (packRows n t c w)) n (inPlaces (packed n t)) t c d
+  pub cells : d ≡ leaves (refusal (packRows n t c w)) (drawing n (inPlaces (packed n t)) t c) c
   pub workspace : x ≡ workspaceAfter (refusal (packRows n t c w)) w

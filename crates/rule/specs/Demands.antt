@@ -1,28 +1,30 @@
--- Demands 2 and 3, each as one statement over the outcomes of Calls.antt and Files.antt, and three more: what holds of the set and the number that a walk hands
--- back, which order pack takes of several, and that what the writer writes the reader reads. (Demand 1 is the contracts themselves: no call has a condition, each
--- gives its number and every lent buffer, and the check proves that it reads, writes and ends within what it was given.)
+-- Demands 2 and 3, each as one statement over the outcomes of Calls.antt and Files.antt, and four more: what holds of the set and the number that a walk hands
+-- back, which order pack takes of several, in which sequence records stand, and that what the writer writes the reader reads. (Demand 1 is the contracts
+-- themselves: no call has a condition, each gives its number and every lent buffer, and the check proves that it reads, writes and ends within what it was
+-- given.)
 -- Assumes nothing.
 use mathlib.Core.Path.{_≡_}
 use mathlib.Core.Logic.{_≢_, _↔_}
 use mathlib.Core.Bool.{true}
 use mathlib.Core.List.{List, [], _∷_, List·Memᴰ}
 use mathlib.Core.Option.{some}
-use Prim.Native.Nat.{ℕ, _+_, _^_, _≤_, _<_}
+use Prim.Native.Nat.{ℕ, _+_, _*_, _^_, _≤_, _<_}
 use lib.ListN.{length, getD, take}
 use Rattle.rule.specs.Bits.{bit}
 use Rattle.rule.specs.Table.{fitLength, fitRows, depends, restrict}
 use Rattle.rule.specs.Level.{levelCount, size}
 use Rattle.rule.specs.Order.{places, flags, fitOrder, askedBefore, Lex}
 use Rattle.rule.specs.Sets.{setSize}
-use Rattle.rule.specs.Cells.{fitCells, room, flagAt, lowAt, highAt, laidIn, recordsIn}
+use Rattle.rule.specs.Cells.{width, fitCells, room, flagAt, lowAt, highAt, laidIn, recordsIn}
 use Rattle.rule.specs.Walk.{recordsPassed, flagsAsked, tableOf}
 use Rattle.rule.specs.Sound.{sound}
 use Rattle.rule.specs.Diagram.{diagram, asking}
+use Rattle.rule.specs.Sequence.{inSequence, drawing}
 use Rattle.rule.specs.Reduced.{DrawnAs}
-use Rattle.rule.specs.Results.{Making, madeIn, needed}
+use Rattle.rule.specs.Results.{Making, madeIn, needed, rootBy}
 use Rattle.rule.specs.Reply.{Reply, accepted, refused, numberOf, Accepted}
 use Rattle.rule.specs.Calls.{State, Build, Check, Walks, Tabulates, Tabulate, Walk, Make, Pack}
-use Rattle.rule.specs.Files.{bytesOf, reading, labelOf, Reads, Writes}
+use Rattle.rule.specs.Files.{bytesOf, reading, recordsFiled, labelOf, Reads, Writes}
 use Rattle.rule.specs.History.{Call, Calls, Fed, feed, Opens, BeginsOpen, Book, inBook, enter, bookOf}
 
 -- n flags in a fit order, and a fit table of theirs
@@ -77,7 +79,7 @@ pub record Demand2 : Type 0 where
       → m ≤ used + 1 → (tableOf n c k ≡ tableOf n c m) ↔ (k ≡ m)
   -- "So its root is its last record, or an end node when there are none."
   pub root-last : (n used root : ℕ) (order c : List ℕ) → diagram n order c used root ≡ true → (0 < used → root ≡ used + 1) × (used ≡ 0 → root ≤ 1)
-  -- "the reduced ordered diagram of that table": each record of one is in any other, and "which of the permitted sequences the records stand in is open"
+  -- "the reduced ordered diagram of that table": each record of one is in any other, in whichever of "the permitted sequences"
   pub one-diagram : (n : ℕ) (order t : List ℕ) → Fit n order t → (c d : List ℕ) (used root more top : ℕ) → DrawnAs n order t c used root
       → DrawnAs n order t d more top → (k : ℕ) → k < used → (j : ℕ) × (j < more) × Matches n c d k j
   -- what refusal 10 counts for build and pack: the records of each diagram of the table, of which there is one in every order
@@ -208,6 +210,34 @@ pub record PackedOrder : Type 0 where
       → (other cells : List ℕ) (top : ℕ) → length other ≡ places → fitOrder n other ≡ true → DrawnAs n other t cells nodes top
       → Lex (flags n order) (flags n other)
 
+-- ---- one sequence (document 02, request 3)
+
+-- table t under the order, as an accepted build, pack or read left it in the cells d, with so many used records and this root
+pub data Left (n : ℕ) (order t : List ℕ) (used root : ℕ) (d : List ℕ) : Type 0 where
+  built : (c : List ℕ) (r : Reply) → length order ≡ places → Build n t order c r d → Gives r (used ∷ root ∷ []) → Left n order t used root d
+  packed : (c w x : List ℕ) (r : Reply) → Pack n t c w r d x → Gives r (used ∷ root ∷ order) → Left n order t used root d
+  read : (file c : List ℕ) (r : Reply) → Reads file c r d → Gives r (n ∷ used ∷ root ∷ order) → tableOf n d root ≡ t → Left n order t used root d
+
+pub record OneSequence : Type 0 where
+  -- where there is room, `drawing` draws the table, and its records stand "by level, the flag asked last coming first, and within a level by rising low node,
+  -- then rising high node"
+  pub draws : (n : ℕ) (order t : List ℕ) → Fit n order t → (c : List ℕ) → size (flags n order) t ≤ room c
+      → DrawnAs n order t (drawing n order t c) (size (flags n order) t) (rootBy (size (flags n order) t) t)
+      × (inSequence n order (drawing n order t c) (size (flags n order) t) ≡ true)
+  -- and whatever draws the table and stands so has these used cells
+  pub only : (n : ℕ) (order t : List ℕ) → Fit n order t → (d : List ℕ) (used root : ℕ) → DrawnAs n order t d used root → inSequence n order d used ≡ true
+      → (c : List ℕ) → used ≤ room c → take (used * width) d ≡ take (used * width) (drawing n order t c)
+  -- "In every diagram that is built, packed or read, records stand" so
+  pub in-sequence : (n used root : ℕ) (order t d : List ℕ) → Left n order t used root d → inSequence n order d used ≡ true
+  -- "What build, pack and the reader leave is no longer free: the same table under the same order has the same used cells." "Production compares loaded joints
+  -- cell by cell, so two loads of one rule must be equal.": all the cells, where as many are lent
+  pub same-loads : (n used root more top : ℕ) (order t d e : List ℕ) → Left n order t used root d → Left n order t more top e
+      → (used ≡ more) × (root ≡ top) × (take (used * width) d ≡ take (more * width) e) × (length d ≡ length e → d ≡ e)
+  -- "Files in another permitted sequence are still read; their records are put in sequence on loading.": as they are filed they draw the table that the cells
+  -- left draw, so that each is there (`Demand2.one-diagram`)
+  pub filed : (n used root : ℕ) (order file c d : List ℕ) (r : Reply) → Reads file c r d → Gives r (n ∷ used ∷ root ∷ order)
+      → DrawnAs n order (tableOf n d root) (laidIn c (recordsFiled (reading c file))) used root
+
 -- ---- rule files
 
 -- a rule's file: an accepted write left these bytes, as many as it handed back
@@ -224,22 +254,31 @@ abbrev pub labelRead : List ℕ → List ℕ → List ℕ
 labelRead cells file = bytesOf (labelOf (reading cells file)) file
 
 pub record RuleFiles : Type 0 where
-  -- what the reader takes is up to ten flags in a fit order, and sound cells in which every record is reached (and stands for one table: `Demand2.read`)
+  -- what the reader leaves is up to ten flags in a fit order, and sound cells in which every record is reached (and stands for one table: `Demand2.read`)
   pub is-diagram : (n nodes root : ℕ) (order file cells d : List ℕ) (r : Reply) → Reads file cells r d → Gives r (n ∷ nodes ∷ root ∷ order)
       → (n ≤ 10) × (fitOrder n order ≡ true) × (diagram n order d nodes root ≡ true)
-  -- what the writer writes the reader reads to the same n, order, label, records and root, into any cells that hold the records; cells past them are 0
+  -- what the writer writes the reader reads to the same n, order, label, record count and root, and to the same rule in sequence, into any cells that hold its
+  -- records; cells past them are 0. Where the writer's records stood in sequence, they are those
   pub read-back : (n used root : ℕ) (order c label file cells d : List ℕ) (r : Reply) → length order ≡ places → WrittenAs n used root order c label file
       → fitCells cells ≡ true → used ≤ room cells → Reads file cells r d
-      → Gives r (n ∷ used ∷ root ∷ order) × (labelRead cells file ≡ label) × (d ≡ laidIn cells (recordsIn c used))
-  -- into as many cells as the writer's: the same cells
+      → Gives r (n ∷ used ∷ root ∷ order) × (labelRead cells file ≡ label) × (d ≡ drawing n order (tableOf n c root) cells)
+      × (inSequence n order c used ≡ true → d ≡ laidIn cells (recordsIn c used))
+  -- into as many cells as the writer's: the same cells, just where the writer's records stood in sequence
   pub same-cells : (n used root : ℕ) (order c label file cells d : List ℕ) (r : Reply) → length order ≡ places → WrittenAs n used root order c label file
       → length cells ≡ length c → Reads file cells r d
-      → Gives r (n ∷ used ∷ root ∷ order) × (labelRead cells file ≡ label) × (d ≡ c)
+      → Gives r (n ∷ used ∷ root ∷ order) × (labelRead cells file ≡ label) × ((d ≡ c) ↔ (inSequence n order c used ≡ true))
   -- it is refused under 10 just where the cells don't hold the records
   pub no-room : (n used root : ℕ) (order c label file cells d : List ℕ) (r : Reply) → length order ≡ places → WrittenAs n used root order c label file
       → fitCells cells ≡ true → Reads file cells r d → (numberOf r ≡ 10) ↔ (room cells < used)
-  -- what the reader took from a written file, handed to the writer with bytes enough, is written to the same bytes
+  -- what the reader took from a written file, handed to the writer with bytes enough, is written to as many bytes, and to the same bytes just where the
+  -- first writer's records stood in sequence
   pub again : (n used root n′ used′ root′ : ℕ) (order c label file cells d order′ bytes after : List ℕ) (r q : Reply) → length order ≡ places
       → WrittenAs n used root order c label file → Reads file cells r d → Gives r (n′ ∷ used′ ∷ root′ ∷ order′)
       → length file ≤ length bytes → Writes n′ order′ d used′ root′ (labelRead cells file) bytes q after
-      → Gives q (length file ∷ []) × (take (length file) after ≡ file)
+      → Gives q (length file ∷ []) × ((take (length file) after ≡ file) ↔ (inSequence n order c used ≡ true))
+  -- so from the second writing on the bytes no longer change: what the reader took from any file is written to bytes that, read and written again, come back
+  pub settled : (n used root n′ used′ root′ : ℕ) (order file c d label written cells e order′ bytes after : List ℕ) (r p q : Reply)
+      → Reads file c r d → Gives r (n ∷ used ∷ root ∷ order) → WrittenAs n used root order d label written
+      → Reads written cells p e → Gives p (n′ ∷ used′ ∷ root′ ∷ order′)
+      → length written ≤ length bytes → Writes n′ order′ e used′ root′ (labelRead cells written) bytes q after
+      → Gives q (length written ∷ []) × (take (length written) after ≡ written)

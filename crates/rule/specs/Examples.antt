@@ -1,9 +1,9 @@
 -- The settled examples that document 01 marks P, as rows of one table, and those that settle a request of document 02. Character r from the left, counted
 -- from 0, is row r; "Where no order is given with the nodes, the table is packed." The proof of them all is proofs/Examples.antt.
 -- Assumes nothing.
-use mathlib.Core.Bool.{Bool, _&&_}
-use mathlib.Core.List.{List, [], _∷_}
-use Prim.Native.Nat.{ℕ, _+_}
+use mathlib.Core.Bool.{Bool, not, _&&_}
+use mathlib.Core.List.{List, [], _∷_, _++_}
+use Prim.Native.Nat.{ℕ, _+_, _-_, _*_}
 use Prim.Native.String.{String}
 use lib.Dec.{eqb}
 use lib.ListN.{length, replicate}
@@ -14,9 +14,10 @@ use Rattle.rule.specs.Results.{rootBy, walking, answered}
 use Rattle.rule.specs.Cells.{width, RecordValues, recordCells}
 use Rattle.rule.specs.Walk.{tableOf}
 use Rattle.rule.specs.Diagram.{diagram}
+use Rattle.rule.specs.Sequence.{inSequence, drawing}
 use Rattle.rule.specs.Refusals.{refusal, walkRows}
 use Rattle.rule.specs.Reply.{Reply, reply, numberOf, valuesOf}
-use Rattle.rule.specs.Files.{reading, readNumber, readValues, writeRows}
+use Rattle.rule.specs.Files.{reading, readNumber, readValues, readCells, writeRows}
 use Rattle.rule.specs.Text.{text}
 use Rattle.rule.specs.Listing.{flagsOf, rowsOf, askingPacked, listing}
 
@@ -50,12 +51,25 @@ pub data Example : Type 0 where
   draws : String → String → List RecordValues → Example
   -- in records under this order the walk from the node, for the row, has this number and these values
   walks : String → List RecordValues → ℕ → ℕ → ℕ → List ℕ → Example
+  -- the cells of the table under the order hold these records, and 0 past them; their neighbours pass the test of the sequence
+  stands : String → String → List RecordValues → Example
+  -- the records are the diagram of the table under the order, in another sequence
+  strays : String → String → List RecordValues → Example
+  -- the file is read into cells that hold these records, and 0 past them
+  fills : List ℕ → List RecordValues → Example
   -- the listing of the table's line is this text
   lists : String → String → Example
 
--- the cells that a file's records are read into
+-- so many records of cells, that a file's records are read into and a table is drawn in: not cleared
+abbrev pub lentRecords : ℕ
+lentRecords = 5
+
 abbrev pub lentCells : List ℕ
-lentCells = replicate width 0
+lentCells = replicate (lentRecords * width) 1
+
+-- these records in them, and 0 past these
+abbrev pub inLent : List RecordValues → List ℕ
+inLent rs = recordCells rs ++ replicate ((lentRecords - length rs) * width) 0
 
 abbrev pub branch : ℕ → ℕ → ℕ → RecordValues
 branch flag low high = record { flag = flag; low = low; high = high }
@@ -67,6 +81,23 @@ majority = branch 2 0 1 ∷ branch 1 0 2 ∷ branch 1 2 1 ∷ branch 0 3 4 ∷ [
 -- yes where flags 0 and 2 are 1, or 1 and 3: the listing's example
 abbrev pub eitherPair : List RecordValues
 eitherPair = branch 3 0 1 ∷ branch 1 0 2 ∷ branch 2 3 1 ∷ branch 0 3 4 ∷ []
+
+-- yes where flag 0 is 0 and flags 1 and 2 are 1, or flags 0 and 1 are: two records of one level have one low node
+abbrev pub oneLow : List RecordValues
+oneLow = branch 2 0 1 ∷ branch 1 0 1 ∷ branch 1 0 2 ∷ branch 0 4 3 ∷ []
+
+-- flag 1 where flag 0 is 1, else flag 2
+abbrev pub choice : List RecordValues
+choice = branch 2 0 1 ∷ branch 1 0 1 ∷ branch 0 2 3 ∷ []
+
+-- the records are a diagram of the table under the order
+abbrev pub isDrawn : String → String → List RecordValues → Bool
+isDrawn t o rs =
+    diagram (flagsOf (digits t)) (inPlaces (digits o)) (recordCells rs) (length rs) (length rs + 1)
+    && same (tableOf (flagsOf (digits t)) (recordCells rs) (length rs + 1)) (digits t)
+
+abbrev pub isInSequence : String → List RecordValues → Bool
+isInSequence o rs = inSequence (length (digits o)) (inPlaces (digits o)) (recordCells rs) (length rs)
 
 -- what a walk in just these records hands back, by the definitions that its contract has
 abbrev pub walkReply : List ℕ → List RecordValues → ℕ → ℕ → Reply
@@ -84,11 +115,13 @@ holds (file f n k m) =
     eqb (readNumber (reading lentCells f)) 0 && same (readValues f (reading lentCells f)) (n ∷ k ∷ m ∷ rising n)
 holds (refusedFile f k) = eqb (readNumber (reading lentCells f)) k
 holds (refusedLabel many k) = eqb (refusal (writeRows 0 (rising 0) [] 0 0 (replicate many 0x41) [])) k
-holds (draws t o rs) =
-    diagram (flagsOf (digits t)) (inPlaces (digits o)) (recordCells rs) (length rs) (length rs + 1)
-    && same (tableOf (flagsOf (digits t)) (recordCells rs) (length rs + 1)) (digits t)
+holds (draws t o rs) = isDrawn t o rs
 holds (walks o rs m row k values) =
     eqb (numberOf (walkReply (digits o) rs m row)) k && same (valuesOf (walkReply (digits o) rs m row)) values
+holds (stands t o rs) =
+    same (drawing (flagsOf (digits t)) (inPlaces (digits o)) (digits t) lentCells) (inLent rs) && isInSequence o rs
+holds (strays t o rs) = isDrawn t o rs && not (isInSequence o rs)
+holds (fills f rs) = same (readCells lentCells f (reading lentCells f)) (inLent rs)
 holds (lists t s) = same (listing (text t)) (text s)
 
 unfoldable pub examples : List Example
@@ -136,4 +169,22 @@ examples =
     ∷ draws "0000010100110111" "0213" eitherPair
     ∷ walks "0213" eitherPair 5 10 0 (1 ∷ 11 ∷ 3 ∷ [])
     ∷ walks "0213" eitherPair 5 5 0 (1 ∷ 5 ∷ 2 ∷ [])
+    -- request 3: by the flag's place in the order, not by its number; in one level by the low node, then by the high node. What may stand in another sequence
+    -- does so below it
+    ∷ stands "0000010100110111" "0213" eitherPair
+    ∷ stands "00100101" "102" (branch 2 0 1 ∷ branch 2 1 0 ∷ branch 0 0 2 ∷ branch 0 3 2 ∷ branch 1 4 5 ∷ [])
+    ∷ strays "00100101" "102" (branch 2 1 0 ∷ branch 2 0 1 ∷ branch 0 0 3 ∷ branch 0 2 3 ∷ branch 1 4 5 ∷ [])
+    ∷ stands "00010111" "012" majority
+    ∷ strays "00010111" "012" (branch 2 0 1 ∷ branch 1 2 1 ∷ branch 1 0 2 ∷ branch 0 4 3 ∷ [])
+    ∷ stands "00010011" "012" oneLow
+    ∷ strays "00010011" "012" (branch 2 0 1 ∷ branch 1 0 2 ∷ branch 1 0 1 ∷ branch 0 3 4 ∷ [])
+    ∷ stands "00011011" "012" choice
+    ∷ strays "00011011" "012" (branch 1 0 1 ∷ branch 2 0 1 ∷ branch 0 3 2 ∷ [])
+    ∷ stands "1" "" []
+    -- a file in such another sequence is read; in a level the children's new numbers count, and not those of the file. A child behind its parent is still 6,
+    -- though the root reaches it
+    ∷ fills (0x0B ∷ 3 ∷ 0 ∷ 1 ∷ 2 ∷ 3 ∷ 0 ∷ 1 ∷ 0 ∷ 0 ∷ 1 ∷ 0 ∷ 2 ∷ 0 ∷ 0 ∷ 1 ∷ 0 ∷ 0 ∷ 3 ∷ 0 ∷ 2 ∷ 0 ∷ []) choice
+    ∷ fills (0x0B ∷ 3 ∷ 0 ∷ 1 ∷ 2 ∷ 5 ∷ 0 ∷ 2 ∷ 1 ∷ 0 ∷ 0 ∷ 0 ∷ 2 ∷ 0 ∷ 0 ∷ 1 ∷ 0 ∷ 1 ∷ 2 ∷ 0 ∷ 0 ∷ 0 ∷ 1 ∷ 3 ∷ 0 ∷ 0 ∷ 0 ∷ 0 ∷ 4 ∷ 0 ∷ 5 ∷ 0 ∷ [])
+    (branch 2 0 1 ∷ branch 2 1 0 ∷ branch 1 2 0 ∷ branch 1 3 0 ∷ branch 0 5 4 ∷ [])
+    ∷ refusedFile (0x0B ∷ 3 ∷ 0 ∷ 1 ∷ 2 ∷ 3 ∷ 0 ∷ 1 ∷ 0 ∷ 0 ∷ 3 ∷ 0 ∷ 2 ∷ 0 ∷ 0 ∷ 1 ∷ 0 ∷ 0 ∷ 0 ∷ 0 ∷ 2 ∷ 0 ∷ []) 6
     ∷ []

@@ -1,5 +1,5 @@
--- Rule files, read and written (document 01, "Rule files" and the reader's sequence of "Refused, by where it is found"; document 02, request 1). A file is
--- the list of its bytes.
+-- Rule files, read and written (document 01, "Rule files" and the reader's sequence of "Refused, by where it is found"; document 02, requests 1 and 3). A file
+-- is the list of its bytes.
 -- Assumes nothing.
 use mathlib.Core.Path.{_≡_}
 use mathlib.Core.Bool.{Bool, cond, not, _&&_, _||_}
@@ -12,7 +12,9 @@ use Rattle.rule.specs.Bits.{bit, below}
 use Rattle.rule.specs.Tests.{each}
 use Rattle.rule.specs.Order.{flags, inPlaces, rising}
 use Rattle.rule.specs.Cells.{room, RecordValues, laidIn, recordsIn}
+use Rattle.rule.specs.Walk.{tableOf}
 use Rattle.rule.specs.Diagram.{diagram}
+use Rattle.rule.specs.Sequence.{drawing}
 use Rattle.rule.specs.Refusals.{Row, refusal, flagCount, orderPlaces, cells, diagramRecords, node, result}
 use Rattle.rule.specs.Reply.{Reply, reply, leaves}
 
@@ -219,15 +221,24 @@ abbrev pub readValues : List ℕ → Outcome → List ℕ
 readValues file (stop k) = 0 ∷ 0 ∷ 0 ∷ replicate 10 0
 readValues file (go x) = x .n ∷ count x ∷ rootRead (getD file 0 0) (count x) ∷ x .places
 
--- the cells after a read
-abbrev pub readCells : List ℕ → Outcome → List ℕ
-readCells c (stop k) = c
-readCells c (go x) = laidIn c (x .records)
+-- the table that a file's records stand for, as they are filed
+abbrev pub tableFiled : List ℕ → List ℕ → Reading → List ℕ
+tableFiled c file x = tableOf (x .n) (laidIn c (x .records)) (rootRead (getD file 0 0) (count x))
+
+-- the cells after a read: the records "are put in sequence on loading" (request 3)
+abbrev pub readCells : List ℕ → List ℕ → Outcome → List ℕ
+readCells c file (stop k) = c
+readCells c file (go x) = drawing (x .n) (x .places) (tableFiled c file x) c
+
+-- the records of a file that is read, as they are filed
+abbrev pub recordsFiled : Outcome → List RecordValues
+recordsFiled (stop k) = []
+recordsFiled (go x) = x .records
 
 -- read takes a file and cells
 pub record Reads (file c : List ℕ) (r : Reply) (d : List ℕ) : Type 0 where
   pub answer : r ≡ reply (readNumber (reading c file)) (readValues file (reading c file))
-  pub cells : d ≡ readCells c (reading c file)
+  pub cells : d ≡ readCells c file (reading c file)
 
 -- where the label stands; "a refused file gives an empty part"
 abbrev pub labelOf : Outcome → Part

@@ -8,6 +8,7 @@ pub mod Cells
 pub mod Walk
 pub mod Sound
 pub mod Diagram
+pub mod Sequence
 pub mod Reduced
 pub mod Results
 pub mod Refusals

@@ -99,7 +99,15 @@ fn walks(n: u8, table: &[u8], order: Order, cells: &[u16], used: u16, root: Node
     true
 }
 
-// The sum so far 31 times, and with it the set of the flags that a walk asked, 1,024 times their number and 7, modulo 65,521.
+// The sum so far 31 times, and with it a number and 7, modulo 65,521.
+fn with(sum: u64, number: u64) -> u64
+    requires { ⌜ (sum < 65521) × (number < 1000000) ⌝ }
+    ensures { λ r. ⌜ r < 65521 ⌝ }
+{
+    (sum * 31 + number + 7) % 65521
+}
+
+// The sum with the set of the flags that a walk asked, and 1,024 times their number.
 fn with_walk(sum: u64, said: Said) -> u64
     requires { ⌜ sum < 65521 ⌝ }
     ensures { λ r. ⌜ r < 65521 ⌝ }
@@ -109,7 +117,7 @@ fn with_walk(sum: u64, said: Said) -> u64
             answer,
             asked,
             count,
-        } => (sum * 31 + asked as u64 + count as u64 * 1024 + 7) % 65521,
+        } => with(sum, asked as u64 + count as u64 * 1024),
         Said::Refused(k) => sum,
     }
 }
@@ -128,6 +136,34 @@ fn asked_sum(n: u8, order: Order, cells: &[u16], used: u16, root: Node, rows: us
         row += 1;
     }
     sum
+}
+
+// A sum over cells.
+fn cell_sum(cells: &[u16]) -> u64
+    ensures { λ r. ⌜ r < 65521 ⌝ }
+{
+    let mut sum: u64 = 0;
+    let mut i = 0;
+    while i < cells.len() {
+        sum = with(sum, cells[i] as u64);
+        i += 1;
+    }
+    sum
+}
+
+// The used cells; from seven flags on a sum over them.
+pub fn used_cells(n: u8, cells: &[u16], used: u16) {
+    let end = used as usize * cells::WIDTH;
+    if cells.len() < end {
+        print::too_long();
+        return;
+    }
+    if n < 7 {
+        print::text(b" cells");
+        print::numbers(&cells[0..end]);
+        return;
+    }
+    print::number(b" sum", cell_sum(&cells[0..end]) as u16);
 }
 
 pub fn flag_counts(n: u8, cells: &[u16], used: u16) {
@@ -175,6 +211,7 @@ pub fn draw(text: &[u8], at: usize) {
             flag_counts(n, &cells, nodes);
             let sum = asked_sum(n, order, &cells, nodes, root, count);
             print::number(b" walks", sum as u16);
+            used_cells(n, &cells, nodes);
         }
     }
 }

@@ -1,6 +1,7 @@
 // A table packed in lent cells and a lent workspace that are full of junk, and what was lent looked at afterwards.
 use crate::draw::agrees;
 use crate::draw::flag_counts;
+use crate::draw::used_cells;
 use crate::lent::BYTE_JUNK;
 use crate::lent::CELL_JUNK;
 use crate::lent::MOST_BYTES;
@@ -67,6 +68,7 @@ pub fn pack(text: &[u8], at: usize) {
             print::number(b"nodes", nodes);
             places(n, packed.order);
             flag_counts(n, &cells, nodes);
+            used_cells(n, &cells, nodes);
         }
     }
     let mut bytes = [BYTE_JUNK; MOST_BYTES];

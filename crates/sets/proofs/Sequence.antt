@@ -35,12 +35,12 @@ place x (y ∷ l) m =
 rising-at : (l : List ℕ) → Rises l → (i j : ℕ) → i < j → j < length l → key (getD l i 0) < key (getD l j 0)
 rising-at [] r i j h g = absurd (omega arith)
 rising-at (x ∷ l) r i zero h g = absurd (omega arith)
-rising-at (x ∷ l) r zero (suc j) h g = r .0 _ (at-in l j (le-of-suc-le-suc g))
+rising-at (x ∷ l) r zero (suc j) h g = r .0 _ (at-in 0 l j (le-of-suc-le-suc g))
 rising-at (x ∷ l) r (suc i) (suc j) h g = rising-at l (r .1) i j (le-of-suc-le-suc h) (le-of-suc-le-suc g)
 
 module _ (l : List ℕ) (t : test l ≡ true) where
   small : (i : ℕ) → i < 1024 → getD l i 0 < 1024
-  small i h = exact l t .sound _ (at-in l i (omega (arith, length-is l t)))
+  small i h = exact l t .sound _ (at-in 0 l i (omega (arith, length-is l t)))
 
   rising : (i j : ℕ) → i < j → j < 1024 → key (getD l i 0) < key (getD l j 0)
   rising i j h k = rising-at l (rises l t) i j h (omega (arith, length-is l t))

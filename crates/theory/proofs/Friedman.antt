@@ -35,7 +35,7 @@ abbrev pub Flags : ℕ → List ℕ → Type 0
 Flags n l = (i : ℕ) → In i l → i < n
 
 module _ (n : ℕ) where
-  fixings-swap : (i j : ℕ) (l t : List ℕ) → length t ≡ 2 ^ n → i < n → j < n → i ≢ j → Within (fixings (i ∷ j ∷ l) t) (fixings (j ∷ i ∷ l) t)
+  pub fixings-swap : (i j : ℕ) (l t : List ℕ) → length t ≡ 2 ^ n → i < n → j < n → i ≢ j → Within (fixings (i ∷ j ∷ l) t) (fixings (j ∷ i ∷ l) t)
   fixings-swap i j l t fit i<n j<n i≢j u m =
       let (a, a<2, m₁) = unbranch i (j ∷ l) t m in
       let (b, b<2, m₂) = unbranch j l (cofactor i a t) m₁ in

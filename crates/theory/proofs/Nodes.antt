@@ -23,14 +23,14 @@ use Rattle.theory.proofs.Levels.{Turn, level-one, asked-exactly, whole-
 -- ---- the nodes of an order, level by level
 
 -- `before` lists once each flag below level l
-abbrev Lower : ℕ → List ℕ → ℕ → List ℕ → Type 0
+abbrev pub Lower : ℕ → List ℕ → ℕ → List ℕ → Type 0
 Lower n o l before = Exactly (λ (i : ℕ). (i < n) × (level o i < l)) before
 
-none-lower : (n : ℕ) (o : List ℕ) → Lower n o 0 []
+pub none-lower : (n : ℕ) (o : List ℕ) → Lower n o 0 []
 none-lower n o = record { once = tt; sound = λ i m. absurd (not-nil m); whole = λ i h. absurd (omega (arith, h .1)) }
 
 module _ {n : ℕ} {o : List ℕ} (p : Order n o) where
-  lower-next : (l : ℕ) (before : List ℕ) (v : ℕ) → v < n → level o v ≡ l → Lower n o l before → Lower n o (suc l) (v ∷ before)
+  pub lower-next : (l : ℕ) (before : List ℕ) (v : ℕ) → v < n → level o v ≡ l → Lower n o l before → Lower n o (suc l) (v ∷ before)
   lower-next l before v hv e a =
       record {
         once = (λ m. omega (arith, a .sound v m .1), a .once);

@@ -14,7 +14,7 @@ use borrow.Author.Tests.{eqb-true, eq-eqb}
 use Rattle.rule.specs.Bits.{below}
 use Rattle.rule.specs.Level.{size}
 use Rattle.rule.specs.Tests.{keep}
-use Rattle.rule.specs.Order.{flags, times, eachOnce, restZero, fitOrder, Lex, inPlaces, rising, picks, gather, ordersOf, orders, leastOf, rank, packed}
+use Rattle.rule.specs.Order.{places, flags, times, eachOnce, restZero, fitOrder, Lex, inPlaces, rising, picks, gather, ordersOf, orders, leastOf, rank, packed}
 use Rattle.theory.proofs.Member.{In, head, tail, not-nil, cases-cons, append-cases, eq-of-singleton, cast, append-left, append-right, in-map, map-in, Perm, cons, swap, trans, perm-refl}
 use Rattle.theory.proofs.Bits.{length-from, below-in, in-below}
 use Rattle.theory.proofs.Tests.{and-split, and-join, each-in, each-at, at-each, below-each, keep-in, in-keep}
@@ -268,6 +268,9 @@ unfolding fitOrder
 is-fit-order n o p z = and-join (order-each-once n o p) (at-rest-zero n o z)
 
 -- up to ten flags in their ten places
+pub in-places-length : (o : List ℕ) → length (inPlaces o) ≡ places
+in-places-length o = simp (length-take, length-append, length-replicate) (omega arith)
+
 pub in-places-is : (o : List ℕ) → length o ≤ 10 → inPlaces o ≡ o ++ replicate (10 - length o) 0
 in-places-is o h =
     let k = length o in

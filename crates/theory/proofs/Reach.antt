@@ -8,16 +8,19 @@ use Prim.Native.Nat.{ℕ, zero, suc, _+_, _-_, _≤_, _<_}
 use native.Mathlib.Nat.{le-refl}
 use native.Mathlib.Decide.{ℕ-discrete}
 use native.Mathlib.Omega.{arith}
-use borrow.Author.Tests.{lt-ltb, le-ltb, leb-true, le-leb, eqb-true, eq-eqb}
+use borrow.Author.Tests.{lt-ltb, le-ltb, leb-true, le-leb, eqb-true, eq-eqb, ne-eqb}
 use lib.Dec.{eqb, leb}
+use lib.Pow.{pow-pos}
 use Rattle.rule.specs.Cells.{lowAt, highAt, recordOf}
+use Rattle.rule.specs.Walk.{tableOf}
 use Rattle.rule.specs.Sound.{sound}
 use Rattle.rule.specs.Diagram.{reachIn, reach, allReached, diagram}
+use Rattle.rule.specs.Results.{rootBy}
 use Rattle.theory.proofs.Tests.{and-split, and-join, each-below, below-each}
 use Rattle.theory.specs.Shape.{Shaped, Smaller}
 use Rattle.theory.proofs.Sound.{sound-shape, shape-sound}
 use Rattle.theory.specs.Child.{childAt}
-use Rattle.theory.proofs.Walks.{node, nodes, child-is}
+use Rattle.theory.proofs.Walks.{node, smaller, nodes, child-is, walk-end, table-row}
 
 -- ---- reach, node by node
 
@@ -202,3 +205,15 @@ module _ (n : ℕ) (order c : List ℕ) (used root : ℕ) where
   unfolding diagram
   view-diagram d =
       and-join (shape-sound n order c used (d .cells)) (and-join (le-leb root (used + 1) (d .root-is)) (all-reached c used root .1 (d .reached)))
+
+-- its root is its last record, or the end node of its table
+pub root-by : {n used root : ℕ} {order d : List ℕ} → Diagram n order d used root → root ≡ rootBy used (tableOf n d root)
+root-by {n} {used} {root} {d} x = go used refl
+  where
+    go : (k : ℕ) → used ≡ k → root ≡ rootBy k (tableOf n d root)
+    go zero e =
+        let m : root < 2 = omega (arith, x .root-is) in
+        sym (walk-end d root 0 m) ∙ sym (table-row n d root 0 (pow-pos n))
+    go (suc k) e =
+        root-last (smaller (x .cells)) root (x .root-is) (omega arith) (all-reached d used root .1 (x .reached)) ∙ ap (λ (x : ℕ). x + 1) e
+        ∙ sym (rw (ne-eqb (suc k) 0 (omega arith)))

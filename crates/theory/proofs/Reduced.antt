@@ -7,7 +7,7 @@ use native.Mathlib.Omega.{arith}
 use Rattle.rule.specs.Order.{flags}
 use Rattle.rule.specs.Cells.{flagAt, lowAt, highAt}
 use Rattle.rule.specs.Sound.{shaped}
-use Rattle.rule.specs.Reduced.{Equivalent, terminals, internal, Reduced, Ordered}
+use Rattle.rule.specs.Reduced.{Equivalent, terminals, internal, Reduced, Ordered, DrawnAs}
 use Rattle.theory.proofs.Tests.{and-join}
 use Rattle.theory.specs.Shape.{Shaped, Smaller}
 use Rattle.theory.proofs.Shape.{flags-below, children-differ, children-smaller, children-later, none-equal, laid-view, shape-view}
@@ -78,3 +78,7 @@ module _ (n : ℕ) (order c : List ℕ) (used root : ℕ) where
 
       same : {m p : ℕ} → m ≡ p → m ≤ used + 1 → Equivalent c m p
       same {m} e h = rw (← e) (equivalent-refl (record { low = λ k h. small k h .0; high = λ k h. small k h .1 }) m h)
+
+-- what is drawn is a diagram
+pub drawn-diagram : {n used root : ℕ} {order t c : List ℕ} → DrawnAs n order t c used root → Diagram n order c used root
+drawn-diagram {n} {used} {root} {order} {t} {c} x = reduced-diagram n order c used root (x .ordered) (x .reduced)

@@ -8,7 +8,7 @@ use native.Mathlib.Omega.{arith}
 use borrow.Author.Tests.{ltb-true}
 use lib.Dec.{ltb}
 use Rattle.rule.specs.Refusals.{Row, refusal}
-use Rattle.rule.specs.Reply.{Reply, accepted, refused, reply}
+use Rattle.rule.specs.Reply.{Reply, accepted, refused, reply, leaves}
 use Rattle.theory.proofs.Tests.{and-split}
 
 -- the number of each row is one of the table's, not 0
@@ -20,6 +20,20 @@ numbered (row ∷ rows) = ltb 0 (row .1) && numbered rows
 pub row-passed : (b : Bool) (k : ℕ) (rows : List Row) → refusal ((b, suc k) ∷ rows) ≡ 0 → (b ≡ false) × (refusal rows ≡ 0)
 row-passed true k rows e = absurd (omega arith)
 row-passed false k rows e = (refl, e)
+
+-- no row applies
+abbrev pub Passed : List Row → Type 0
+Passed [] = Unit {0}
+Passed (row ∷ rows) = (row .0 ≡ false) × Passed rows
+
+pub passed : (rows : List Row) → numbered rows ≡ true → refusal rows ≡ 0 → Passed rows
+passed [] h e = tt
+passed ((b, zero) ∷ rows) h e = let z : _≡_ {A = ℕ} 0 1 = cc in absurd (omega arith)
+passed ((b, suc k) ∷ rows) h e = let (p, q) = row-passed b k rows e in (p, passed rows (and-split (ltb 0 (suc k)) (numbered rows) h .1) q)
+
+pub none-applies : (rows : List Row) → Passed rows → refusal rows ≡ 0
+none-applies [] p = refl
+none-applies (row ∷ rows) (e, p) = rw e (none-applies rows p)
 
 -- a number that some rows give is given with more rows after them
 pub refused-more : (rows more : List Row) → (refusal rows ≡ 0 → ⊥) → refusal rows ≡ refusal (rows ++ more)
@@ -37,6 +51,11 @@ passed-more ((false, k) ∷ rows) more h e = passed-more rows more (and-split (l
 pub refused-reply : (k : ℕ) (values : List ℕ) → (k ≡ 0 → ⊥) → refused k (map (λ v. 0) values) ≡ reply k values
 refused-reply zero values d = absurd (d refl)
 refused-reply (suc k) values d = refl
+
+-- and leaves what was lent
+pub refused-kept : {A : Type 0} (k : ℕ) (new old : A) → (k ≡ 0 → ⊥) → old ≡ leaves k new old
+refused-kept zero new old d = absurd (d refl)
+refused-kept (suc k) new old d = refl
 
 -- a reply tells the number that it came of, and the values
 abbrev isRefused : Reply → ℕ

@@ -15,10 +15,10 @@ use Rattle.theory.proofs.Member.{In, head, tail}
 use Rattle.theory.proofs.Bits.{in-below}
 use Rattle.theory.proofs.Tests.{each-in, at-each}
 
-pub at-in : (l : List ℕ) (i : ℕ) → i < length l → In (getD l i 0) l
-at-in [] i h = absurd (not-suc-le-zero h)
-at-in (x ∷ l) zero h = head refl
-at-in (x ∷ l) (suc i) h = tail (at-in l i (le-of-suc-le-suc h))
+pub at-in : {A : Type 0} (none : A) (l : List A) (i : ℕ) → i < length l → In (getD l i none) l
+at-in none [] i h = absurd (not-suc-le-zero h)
+at-in none (x ∷ l) zero h = head refl
+at-in none (x ∷ l) (suc i) h = tail (at-in none l i (le-of-suc-le-suc h))
 
 module _ (p : ℕ → Bool) where
   fails-in : {x : ℕ} (l : List ℕ) → In x l → p x ≡ false → each p l ≡ false
@@ -29,7 +29,7 @@ module _ (p : ℕ → Bool) where
       go false e = e
 
   pub fails-at : (l : List ℕ) (i : ℕ) → i < length l → p (getD l i 0) ≡ false → each p l ≡ false
-  fails-at l i h f = fails-in l (at-in l i h) f
+  fails-at l i h f = fails-in l (at-in 0 l i h) f
 
   pub fails-below : (n k : ℕ) → k < n → p k ≡ false → each p (below n) ≡ false
   fails-below n k h f = fails-in (below n) (in-below h) f

@@ -1,8 +1,8 @@
 -- The shape of cells, part by part: what the test `shaped` says of each used record.
 -- Assumes nothing.
 use mathlib.Core.Path.{_≡_, refl, sym, ap, _∙_}
-use mathlib.Core.Logic.{_↔_}
-use mathlib.Core.Bool.{Bool, true, false, not, _&&_, _||_}
+use mathlib.Core.Logic.{_⊎_, inl, inr, _↔_}
+use mathlib.Core.Bool.{Bool, true, false, not, _&&_, _||_, false≢true}
 use mathlib.Core.List.{List, [], _∷_}
 use Prim.Native.Nat.{ℕ, zero, suc, _+_, _-_, _*_, _≤_, _<_}
 use native.Mathlib.Omega.{arith}
@@ -26,13 +26,18 @@ use Rattle.theory.proofs.Tests.{and-split, and-join, each-below, below-
 each-is : (p : ℕ → Bool) {P : ℕ → Type 0} (n : ℕ) → ((k : ℕ) → (p k ≡ true) ↔ P k) → (each p (below n) ≡ true) ↔ ((k : ℕ) → k < n → P k)
 each-is p n t = (λ e k h. t k .0 (each-below p n e k h), λ f. below-each p n (λ k h. t k .1 (f k h)))
 
-both : (a b : Bool) {P Q : Type 0} → (a ≡ true) ↔ P → (b ≡ true) ↔ Q → ((a && b) ≡ true) ↔ (P × Q)
+-- two tests together, one of two, and the tests of an order and of an equation
+pub both : (a b : Bool) {P Q : Type 0} → (a ≡ true) ↔ P → (b ≡ true) ↔ Q → ((a && b) ≡ true) ↔ (P × Q)
 both a b p q = (λ e. let h = and-split a b e in (p .0 (h .0), q .0 (h .1)), λ h. and-join (p .1 (h .0)) (q .1 (h .1)))
 
-below-is : (a b : ℕ) → (ltb a b ≡ true) ↔ (a < b)
+pub either : (a b : Bool) {P Q : Type 0} → (a ≡ true) ↔ P → (b ≡ true) ↔ Q → ((a || b) ≡ true) ↔ (P ⊎ Q)
+either true b p q = (λ e. inl (p .0 refl), λ h. refl)
+either false b p q = (λ e. inr (q .0 e), λ h. elim h [ inl x ↦ absurd (false≢true (p .1 x)) | inr y ↦ q .1 y ])
+
+pub below-is : (a b : ℕ) → (ltb a b ≡ true) ↔ (a < b)
 below-is a b = (ltb-true a b, lt-ltb a b)
 
-equal-is : (a b : ℕ) → (eqb a b ≡ true) ↔ (a ≡ b)
+pub equal-is : (a b : ℕ) → (eqb a b ≡ true) ↔ (a ≡ b)
 equal-is a b = (eqb-true a b, eq-eqb a b)
 
 not-is : (b : Bool) {P : Type 0} → (b ≡ true) ↔ P → (not b ≡ true) ↔ (P → ⊥)

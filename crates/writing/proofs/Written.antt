@@ -17,7 +17,7 @@ use Rattle.rule.specs.Diagram.{allReached}
 use Rattle.rule.specs.Refusals.{refusal, orderPlaces, cells, diagramRecords, node, checkRows}
 use Rattle.rule.specs.Reply.{accepted, refused, reply, leaves}
 use Rattle.rule.specs.Files.{longestLabel, countSize, recordSize, two, printable, labelBytes, bitIf, ifSome, recordBytes, mapOf, fileOf, writeRows, Writes}
-use Rattle.theory.proofs.Refused.{row-passed, refused-more, passed-more, refused-reply}
+use Rattle.theory.proofs.Refused.{row-passed, refused-more, passed-more, refused-reply, refused-kept}
 use Rattle.theory.proofs.Sound.{sound-shape}
 use Rattle.runs.specs.Run.{over, Puts}
 use Rattle.runs.proofs.Puts.{puts-more}
@@ -157,13 +157,9 @@ module _ (n : ℕ) (o c : List ℕ) (used root : ℕ) (l bytes : List ℕ) where
     write-refused d =
         record {
           answer = refused-reply k (length (fileOf n o c used root l) ∷ []) d ∙ ap (λ (j : ℕ). reply j (length (fileOf n o c used root l) ∷ [])) e;
-          bytes-are = kept k (fileOf n o c used root l ++ drop (length (fileOf n o c used root l)) bytes) d
+          bytes-are = refused-kept k (fileOf n o c used root l ++ drop (length (fileOf n o c used root l)) bytes) bytes d
               ∙ ap (λ (j : ℕ). leaves j (fileOf n o c used root l ++ drop (length (fileOf n o c used root l)) bytes) bytes) e;
         }
-      where
-        kept : (j : ℕ) (new : List ℕ) → (j ≡ 0 → ⊥) → bytes ≡ leaves j new bytes
-        kept zero new d = absurd (d refl)
-        kept (suc j) new d = refl
 
     module _ (z : k ≡ 0) where
       passes : refusal (writeRows n o c used root l bytes) ≡ 0

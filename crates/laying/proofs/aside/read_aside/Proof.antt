@@ -13,7 +13,7 @@ use Rattle.rule.specs.Files.{readOr}
 use Rattle.cursor.specs.Step.{readingOf, outcomeOf}
 use Rattle.cursor.proofs.Stepped.{never}
 use Rattle.fields.proofs.Whole.{refused-whole}
-use Rattle.laying.proofs.Held.{reading-unfit, fields-refused, fields-end, left-over, root-le, end-unfit, end-fit, first-lent, held-whole, held-room, held-zeros, whole-many, most-held, most-laid, take-laid}
+use Rattle.laying.proofs.Held.{reading-unfit, fields-refused, fields-end, left-over, root-le, end-unfit, end-fit, first-lent, held-whole, held-room, held-zeros, most-held, most-laid, take-laid}
 use Rattle.laying.proofs.aside.read_aside.Statement.{statement}
 use Rattle.laying.proofs.aside.read_aside.Tie as tie
 
@@ -110,7 +110,7 @@ returns-4 c =
           ∙ sym (fields-end cells file (fits (step .before)) _ (step .read-fields .ensures .is) (on .if2 .left)
           ∙ end-unfit cells file _ (all .if3 .left) (root .before .bit-map .ensures) (root .root-of .ensures) (first-lent cells (fits (step .before)) (start .pre)) (lay .lay-diagram .ensures) (c .before .if4 .taken));
       whole = refused-whole cells file 6 own;
-      most = most-laid cells (fits (step .before)) (start .pre) _ (lay .lay-diagram .ensures .laid) (whole-many cells file _ (step .read-fields .ensures .whole));
+      most = most-laid cells (fits (step .before)) (start .pre) _ (lay .lay-diagram .ensures .laid);
       lent = λ z. absurd (never 6 own (omega arith) z);
       laid = λ z. absurd (never 6 own (omega arith) z);
     }
@@ -130,9 +130,9 @@ returns-5 c =
           ∙ sym (fields-end cells file (fits (step .before)) _ (step .read-fields .ensures .is) (on .if2 .left)
           ∙ end-fit cells file _ (all .if3 .left) (root .before .bit-map .ensures) (root .root-of .ensures) (first-lent cells (fits (step .before)) (start .pre)) (lay .lay-diagram .ensures) (c .if4 .left));
       whole = step .read-fields .ensures .whole;
-      most = most-laid cells (fits (step .before)) (start .pre) _ (lay .lay-diagram .ensures .laid) (whole-many cells file _ (step .read-fields .ensures .whole));
+      most = most-laid cells (fits (step .before)) (start .pre) _ (lay .lay-diagram .ensures .laid);
       lent = λ z. fits (step .before);
-      laid = λ z. take-laid cells (fits (step .before)) (start .pre) _ (lay .lay-diagram .ensures .laid) (whole-many cells file _ (step .read-fields .ensures .whole));
+      laid = λ z. take-laid cells (fits (step .before)) (start .pre) _ (lay .lay-diagram .ensures .laid);
     }
 
 pub read-aside-spec : {M : Type 1} → statement M

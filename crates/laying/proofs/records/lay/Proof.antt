@@ -5,11 +5,13 @@ use mathlib.Core.List.{map}
 use Prim.Native.Nat.{ℕ, _+_, _-_, _*_, _≤_, _<_}
 use native.Mathlib.Omega.{arith}
 use borrow.Author.Needs.{needs}
+use lib.ListN.{length}
 use denote.Ref.{now}
 use Rattle.rule.specs.Bits.{below, from}
 use Rattle.rule.specs.Cells.{room, laidIn}
 use Rattle.rule.specs.Files.{recordSize, recordAt}
-use Rattle.cells.proofs.Laid.{laid-none, laid-lent}
+use Rattle.theory.proofs.Laying.{laid-length}
+use Rattle.cells.proofs.Laid.{laid-none}
 use Rattle.laying.proofs.Laid.{laid-next}
 use Rattle.laying.proofs.records.lay.Statement.{statement}
 use Rattle.laying.proofs.records.lay.Tie as tie
@@ -63,7 +65,7 @@ lay-spec =
     (λ c κs.
     let at = c .before .before .before .before .before in
     let a = at .before .before .before .args in
-    let e = laid-lent (now (a .cells)) (recordAt (now (a .file)) (a .start)) (at .loop .k) (at .loop .inv .1) (omega arith) in
+    let e = ap length (at .loop .inv .1) ∙ laid-length (now (a .cells)) (map (recordAt (now (a .file)) (a .start)) (below (at .loop .k))) in
     omega arith)
     (λ c. search needs)
     (λ c. search needs)
@@ -71,5 +73,5 @@ lay-spec =
     (λ c.
     let at = c .before in
     let a = at .before .before .before .args in
-    laid-lent (now (a .cells)) (recordAt (now (a .file)) (a .start)) (at .loop .k) (at .loop .inv .1) (omega arith))
+    ap length (at .loop .inv .1) ∙ laid-length (now (a .cells)) (map (recordAt (now (a .file)) (a .start)) (below (at .loop .k))))
     returns)

@@ -1,0 +1,4 @@
+pub mod Word
+pub mod Children
+pub mod Level
+pub mod Move
