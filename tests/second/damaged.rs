@@ -16,7 +16,7 @@ const TESTED: [&[usize]; 2] = [&[1, 4, 5, 6, 10, 11, 12, 13], &[1, 4, 5, 6, 7, 1
 
 impl Dice {
     /// The drawing of a random table under an order, with records of a number within bounds.
-    fn filed(&mut self, order: Vec<usize>, label: &str, least: usize, most: usize) -> Filed {
+    pub fn filed(&mut self, order: Vec<usize>, label: &str, least: usize, most: usize) -> Filed {
         loop {
             let eighths = 1 + self.below(7);
             let table = self.table(order.len(), eighths);

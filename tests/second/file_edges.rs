@@ -117,7 +117,7 @@ const FILES: &[(&str, &[usize])] = &[
 ];
 
 /// Records under an order: diagrams, and such as differ from one in a single point.
-const RECORDS: &[(&str, &[Record])] = &[
+pub const RECORDS: &[(&str, &[Record])] = &[
     ("0", &[[0, 0, 1]]),
     ("0", &[[0, 1, 0]]),
     ("0", &[[0, 0, 0]]),
@@ -172,7 +172,7 @@ const RECORDS: &[(&str, &[Record])] = &[
 
 /// What the writer is given: N ORDER USED ROOT BYTES LABEL CELLS CELL CELL .., with the words of
 /// `sized` for the number of cells.
-const WRITES: &[&str] = &[
+pub const WRITES: &[&str] = &[
     // The flag count and the order.
     "10 00010203040506070809 0 1 12 - 0",
     "11 00010203040506070809 0 1 13 - 0",
@@ -353,9 +353,8 @@ fn records() -> Vec<String> {
 }
 
 /// As many records as all the cells hold, sound but not all reached: those that ask a flag have all
-/// pairs of the nodes that ask later ones for children. Then one record, and a last cell that is
-/// not 0.
-fn most() -> Vec<String> {
+/// pairs of the nodes that ask later ones for children.
+pub fn overfull() -> Filed {
     let order: Vec<usize> = (0..10).collect();
     let mut records: Vec<Record> = Vec::new();
     for flag in [9, 8, 7, 6] {
@@ -365,7 +364,12 @@ fn most() -> Vec<String> {
         records.truncate(CELLS / WIDTH);
     }
     assert!(are_sound(&records, &order) && records.len() == CELLS / WIDTH);
-    let filed = Filed { order, label: vec![], records, root: CELLS / WIDTH + 1 };
+    Filed { order, label: vec![], records, root: CELLS / WIDTH + 1 }
+}
+
+/// All of these, read and written. Then one record, and a last cell that is not 0.
+fn most() -> Vec<String> {
+    let filed = overfull();
     let mut lines = reads(&bytes_of(0b1001, &filed), &[CELLS - WIDTH, CELLS]);
     let mut given = given(&filed);
     lines.push(say_write(&given, CELLS));
@@ -376,7 +380,7 @@ fn most() -> Vec<String> {
 }
 
 /// Each one of so many faults, and each two.
-fn pairs(count: usize) -> Vec<Vec<usize>> {
+pub fn pairs(count: usize) -> Vec<Vec<usize>> {
     let with = |i: usize| (i + 1..count).map(move |j| vec![i, j]);
     (0..count).flat_map(|i| [vec![i]].into_iter().chain(with(i))).collect()
 }

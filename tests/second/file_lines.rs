@@ -175,7 +175,7 @@ fn say_filed(filed: &Filed) -> String {
 }
 
 /// What a write is given, and the number of its bytes.
-fn given(words: &[&str]) -> (Given, usize) {
+pub fn given(words: &[&str]) -> (Given, usize) {
     let order = bytes(words[1]).into_iter().map(usize::from).collect();
     let [n, used, root, lent, length] = [0, 2, 3, 4, 6].map(|at| number(words[at]));
     let mut cells: Vec<usize> = words[7..].iter().map(|word| number(word)).collect();
@@ -188,9 +188,13 @@ pub fn say_write(given: &Given, bytes: usize) -> String {
     let Given { n, order, cells, used, root, label } = given;
     let order: Vec<u8> = order.iter().map(|&flag| flag as u8).collect();
     let (order, label) = (hex(&order[..(*n).min(10)]), hex(label));
+    with_cells(&format!("w {n} {order} {used} {root} {bytes} {label}"), cells)
+}
+
+/// The words of a line, then the number of the lent cells and those up to the last that isn't 0.
+pub fn with_cells(words: &str, cells: &[usize]) -> String {
     let kept = cells.len() - cells.iter().rev().take_while(|&&cell| cell == 0).count();
-    let head = format!("w {n} {order} {used} {root} {bytes} {label}");
-    phrase(&head, &[&[cells.len()], &cells[..kept]].concat())
+    phrase(words, &[&[cells.len()], &cells[..kept]].concat())
 }
 
 fn or_kept(answer: Result<String, usize>) -> String {

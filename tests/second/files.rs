@@ -159,10 +159,9 @@ pub fn bytes_of(map: usize, filed: &Filed) -> Vec<u8> {
     [map as u8].into_iter().chain(standing).collect()
 }
 
-/// "The writer always sets bits 0 and 1; it sets the others when needed". It goes by the refusal
-/// table, 13 ahead of 10. "Lent cells in another permitted sequence are accepted as before, and the
-/// writer keeps theirs."
-pub fn write(given: &Given, bytes: usize) -> Result<Vec<u8>, usize> {
+/// What check tests, down the refusal table to 7: the diagram that is given, with its label as it
+/// is. The records stand as the lent cells have them.
+pub fn diagram(given: &Given) -> Result<Filed, usize> {
     let Given { n, order, cells, used, root, label } = given;
     refuse(&[(1, *n > 10), (4, !is_order(order, *n)), (5, are_unfit(cells.len()))])?;
     let order = order[..*n].to_vec();
@@ -175,9 +174,17 @@ pub fn write(given: &Given, bytes: usize) -> Result<Vec<u8>, usize> {
     // "for a diagram with a root up to used records + 1, a record out of reach"
     let is_node = *root <= used + 1;
     refuse(&[(6, is_node && !are_reached(&records, *root)), (7, !is_node)])?;
+    Ok(Filed { order, label: label.clone(), records, root: *root })
+}
+
+/// "The writer always sets bits 0 and 1; it sets the others when needed". It goes by the refusal
+/// table, 13 ahead of 10. "Lent cells in another permitted sequence are accepted as before, and the
+/// writer keeps theirs."
+pub fn write(given: &Given, bytes: usize) -> Result<Vec<u8>, usize> {
+    let filed = diagram(given)?;
+    let Filed { label, records, root, .. } = &filed;
     refuse(&[(13, label.len() > LONGEST_LABEL || label.iter().any(is_unprinted))])?;
-    let filed = Filed { order, label: label.clone(), records, root: *root };
-    let needed = [(2, !label.is_empty()), (3, *used > 0), (4, *root == 1)];
+    let needed = [(2, !label.is_empty()), (3, !records.is_empty()), (4, *root == 1)];
     let bits = needed.iter().filter(|(_, needed)| *needed);
     let file = bytes_of(3 + bits.map(|(bit, _)| 1 << bit).sum::<usize>(), &filed);
     refuse(&[(10, file.len() > bytes)])?;

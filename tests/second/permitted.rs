@@ -9,12 +9,12 @@ use crate::{recast, table_from, Dice, CELLS, WIDTH};
 use std::collections::BTreeSet;
 
 /// Where the records as they stand fall out of sequence.
-fn breaks_of(filed: &Filed) -> BTreeSet<usize> {
+pub fn breaks_of(filed: &Filed) -> BTreeSet<usize> {
     breaks(&filed.records, &filed.order)
 }
 
 /// A rule in a random permitted sequence that is not the one.
-fn unsettled(dice: &mut Dice, rule: impl Fn(&mut Dice) -> Filed) -> Filed {
+pub fn unsettled(dice: &mut Dice, rule: impl Fn(&mut Dice) -> Filed) -> Filed {
     loop {
         let filed = rule(dice);
         let other = Filed { records: dice.permitted(&filed.records), ..filed };

@@ -2,10 +2,10 @@
 //! draws the full decision tree, applies the two collapsing steps of document 001, section 2.1,
 //! as they are worded, and finds the packed order by trying every order. It finds the flags that
 //! a walk asks by the table, and by the collapsed tree. By tables alone it numbers a diagram's
-//! records, and keeps a store, with the plain book beside it; it reads and writes rule files. It
-//! checks the papers' examples, writes test vectors, lists a table and plays lines of files and of
-//! store calls. "The paper" below is document 01; `Err` holds the number of a refusal. Build:
-//! rustc -O --edition 2021 second.rs
+//! records, and keeps a store, with the plain book beside it; it reads and writes rule files and
+//! prints sheets. It checks the papers' examples, writes test vectors, lists a table and plays
+//! lines of files, of sheets and of store calls. "The paper" below is document 01; `Err` holds the
+//! number of a refusal. Build: rustc -O --edition 2021 second.rs
 
 mod book;
 mod damaged;
@@ -18,10 +18,13 @@ mod permitted;
 mod play;
 mod scribe;
 mod sequence;
+mod sheet;
+mod sheets;
 mod store;
 mod worked;
 
 use std::collections::HashSet;
+use std::hash::Hash;
 use std::io::Read;
 
 /// The cells of a record, and the most that may be lent: those of 1,024 records.
@@ -330,8 +333,8 @@ fn answer(ask: &str) -> Result<String, usize> {
     Ok(format!("nodes {nodes}; {order}; {flags}; root {root}; {cells}"))
 }
 
-/// Gives the exit code: 0 if every example agrees, and the own checks of the store, the files and
-/// the sequence.
+/// Gives the exit code: 0 if every example agrees, and the own checks of the store, the files, the
+/// sequence and the sheet.
 fn check() -> i32 {
     let mut code = 0;
     for (ask, expected) in EXAMPLES {
@@ -341,13 +344,13 @@ fn check() -> i32 {
             code = 1;
         }
     }
-    let faults = [worked::faults(), file_lines::faults(), sequence::faults()];
+    let faults = [worked::faults(), file_lines::faults(), sequence::faults(), sheet::faults()];
     for fault in faults.concat() {
         println!("second: {fault}");
         code = 1;
     }
     if code == 0 {
-        let worked = worked::LISTS.len() + file_lines::WORKED.len();
+        let worked = worked::LISTS.len() + file_lines::WORKED.len() + sheet::WORKED.len();
         println!("second: {} examples agree", EXAMPLES.len() + worked);
     }
     code
@@ -418,10 +421,10 @@ fn vector_tables(dice: &mut Dice) -> Vec<Vec<usize>> {
     tables
 }
 
-fn each_once(mut tables: Vec<Vec<usize>>) -> Vec<Vec<usize>> {
+fn each_once<T: Clone + Eq + Hash>(mut items: Vec<T>) -> Vec<T> {
     let mut met = HashSet::new();
-    tables.retain(|table| met.insert(table.clone()));
-    tables
+    items.retain(|item| met.insert(item.clone()));
+    items
 }
 
 /// Tables of seven and eight flags, to be packed too.
@@ -497,6 +500,9 @@ fn vectors(directory: &str) -> std::io::Result<()> {
     let (file_in, file_out) = damaged::vectors();
     std::fs::write(format!("{directory}/file.in"), file_in)?;
     std::fs::write(format!("{directory}/file.out"), file_out)?;
+    let (sheet_in, sheet_out) = sheets::vectors();
+    std::fs::write(format!("{directory}/sheet.in"), sheet_in)?;
+    std::fs::write(format!("{directory}/sheet.out"), sheet_out)?;
     let (listing_in, listing_out) = listing::vectors();
     std::fs::write(format!("{directory}/listing.in"), listing_in)?;
     std::fs::write(format!("{directory}/listing.out"), listing_out)
@@ -510,6 +516,7 @@ fn run(words: &[&str]) -> Option<i32> {
         ["vectors", directory] => vectors(directory).expect("DIR can be written"),
         ["list"] => print!("{}", listing::say(&input())),
         ["file"] => print!("{}", file_lines::play(&String::from_utf8(input()).ok()?)),
+        ["sheet"] => print!("{}", sheet::play(&String::from_utf8(input()).ok()?)),
         ["store"] => print!("{}", play::play(&String::from_utf8(input()).ok()?)),
         _ => return None,
     }
@@ -520,7 +527,8 @@ fn main() {
     let arguments: Vec<String> = std::env::args().skip(1).collect();
     let code = run(&arguments.iter().map(String::as_str).collect::<Vec<_>>());
     if code.is_none() {
-        eprintln!("usage: second check | vectors DIR | list <table | file <lines | store <lists");
+        let lines = "file <lines | sheet <lines | store <lists";
+        eprintln!("usage: second check | vectors DIR | list <table | {lines}");
     }
     std::process::exit(code.unwrap_or(2));
 }

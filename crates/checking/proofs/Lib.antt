@@ -1,3 +1,4 @@
 pub mod Parts
 pub mod Refused
 pub mod Checked
+pub mod First

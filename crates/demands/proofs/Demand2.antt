@@ -1,7 +1,7 @@
 -- Demand 2, whole.
 -- Assumes nothing.
 use Rattle.rule.specs.Demands.{Demand2}
-use Rattle.demands.proofs.Stands.{built, packs, checked, written}
+use Rattle.demands.proofs.Stands.{built, packs, checked, written, printed}
 use Rattle.demands.proofs.Reader.{read}
 use Rattle.demands.proofs.Canonical.{canonical, root-last}
 use Rattle.demands.proofs.Counts.{counts, asks}
@@ -19,6 +19,7 @@ demand2 =
       checked = checked;
       read = read;
       written = written;
+      printed = printed;
       canonical = canonical;
       root-last = root-last;
       counts = counts;

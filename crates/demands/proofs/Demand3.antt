@@ -5,7 +5,7 @@ use mathlib.Core.Logic.{_≢_}
 use mathlib.Core.Bool.{Bool, true, false, not, _&&_}
 use mathlib.Core.List.{List, [], _∷_}
 use mathlib.Core.Option.{some}
-use Prim.Native.Nat.{ℕ, zero, suc, _+_, _^_, _≤_}
+use Prim.Native.Nat.{ℕ, _+_, _^_, _≤_}
 use native.Mathlib.Omega.{arith}
 use borrow.Author.Tests.{le-ltb, leb-true, leb-false}
 use lib.Dec.{leb, ltb}
@@ -15,23 +15,19 @@ use Rattle.rule.specs.Order.{fitOrder}
 use Rattle.rule.specs.Cells.{fitCells}
 use Rattle.rule.specs.Walk.{walk, tableOf}
 use Rattle.rule.specs.Refusals.{Row, refusal, tabulateRows, walkRows}
-use Rattle.rule.specs.Reply.{Reply, reply, numberOf, Accepted, leaves}
+use Rattle.rule.specs.Reply.{Reply, numberOf, Accepted, leaves}
 use Rattle.rule.specs.Calls.{State, Tabulate, Walk}
 use Rattle.rule.specs.History.{Book, inBook}
 use Rattle.rule.specs.Demands.{Gives, RuleKept, Demand3}
 use Rattle.theory.proofs.Tests.{and-split}
 use Rattle.theory.proofs.Walks.{table-row}
 use Rattle.theory.proofs.Refused.{passed}
-use Rattle.demands.proofs.Stands.{accepted-reply, accepted-zero}
+use Rattle.demands.proofs.Stands.{accepted-reply, accepted-zero, number-of}
 use Rattle.demands.proofs.Counts.{equally}
 use Rattle.demands.proofs.Packed.{packed-well}
 use Rattle.demands.proofs.Beside.{After, live, shut, steps-from-open}
 
 -- ---- the number that tabulate gives
-
-number-of : (k : ℕ) (values : List ℕ) → numberOf (reply k values) ≡ k
-number-of zero values = refl
-number-of (suc k) values = refl
 
 -- the numbers of these rows are at most so much, and so is the one that they give
 abbrev upTo : ℕ → List Row → Bool

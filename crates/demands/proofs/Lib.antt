@@ -17,3 +17,5 @@ pub mod Packed
 pub mod Beside
 pub mod Demand3
 pub mod Reported
+pub mod Pages
+pub mod Printed

@@ -3,7 +3,7 @@
 use mathlib.Core.Path.{_≡_, refl, sym, ap, _∙_}
 use mathlib.Core.Bool.{Bool, true, false, not, _&&_, cond, true≢false}
 use mathlib.Core.List.{List, [], _∷_, _++_, Memᴰ·of-map as of-map}
-use Prim.Native.Nat.{ℕ, zero, suc, _+_, _^_, _<_}
+use Prim.Native.Nat.{ℕ, _+_, _^_, _<_}
 use native.Mathlib.Omega.{arith}
 use borrow.Author.Tests.{ltb-true, ltb-false, lt-ltb, eq-eqb, not-false}
 use lib.Dec.{eqb, ltb}
@@ -28,6 +28,7 @@ use Rattle.theory.proofs.Sound.{sound-shape}
 use Rattle.theory.proofs.Walks.{smaller, length-tabled, length-table, fit-table}
 use Rattle.theory.proofs.Orders.{fit-order-is, packed-fewest}
 use Rattle.theory.proofs.Refused.{Passed}
+use Rattle.demands.proofs.Stands.{number-of}
 use Rattle.demands.proofs.Counts.{counts}
 use Rattle.demands.proofs.Needs.{needs}
 
@@ -45,10 +46,8 @@ tenth [] false h e = absurd (omega arith)
 tenth ((true, k) ∷ rows) b h e = absurd (true≢false (sym (and-split (not (eqb k 10)) (others rows) h .0) ∙ ap not (eq-eqb k 10 e)))
 tenth ((false, k) ∷ rows) b h e = let (p, q) = tenth rows b (and-split (not (eqb k 10)) (others rows) h .1) e in ((refl, p), q)
 
--- a reply has its refusal's number
 ten : (k : ℕ) (values : List ℕ) {r : Reply} → r ≡ reply k values → numberOf r ≡ 10 → k ≡ 10
-ten zero values e q = sym (ap numberOf e) ∙ q
-ten (suc k) values e q = sym (ap numberOf e) ∙ q
+ten k values e q = sym (ap numberOf e ∙ number-of k values) ∙ q
 
 -- ---- build and pack
 

@@ -1,4 +1,4 @@
--- A diagram stands for its table, and tabulates to it: so do the accepted results of build and pack, and what check and the writer accept.
+-- A diagram stands for its table, and tabulates to it: so do the accepted results of build and pack, and what check, the writer and print accept.
 -- Assumes nothing.
 use mathlib.Core.Path.{_≡_, refl, sym, ap, subst, _∙_}
 use mathlib.Core.Bool.{Bool, true, false, not, _&&_, _||_}
@@ -17,16 +17,17 @@ use Rattle.rule.specs.Sound.{sound}
 use Rattle.rule.specs.Diagram.{allReached, diagram}
 use Rattle.rule.specs.Sequence.{drawing}
 use Rattle.rule.specs.Results.{rootBy}
-use Rattle.rule.specs.Refusals.{refusal, buildRows, checkRows, tabulateRows, packRows}
-use Rattle.rule.specs.Reply.{Reply, reply, Accepted, leaves}
+use Rattle.rule.specs.Refusals.{refusal, result, buildRows, checkRows, tabulateRows, packRows}
+use Rattle.rule.specs.Reply.{Reply, reply, numberOf, Accepted, leaves}
 use Rattle.rule.specs.Calls.{Build, Check, Pack}
 use Rattle.rule.specs.Files.{writeRows, Writes}
+use Rattle.rule.specs.Sheet.{sheet, printRows, Prints}
 use Rattle.rule.specs.Demands.{Fit, StandsFor, Gives}
 use Rattle.theory.proofs.Tests.{and-split, and-join}
 use Rattle.theory.proofs.Reach.{diagram-view, view-diagram}
 use Rattle.theory.proofs.Sound.{shape-sound}
 use Rattle.theory.proofs.Reduced.{diagram-reduced}
-use Rattle.theory.proofs.Refused.{Passed, passed}
+use Rattle.theory.proofs.Refused.{Passed, passed, split-passed}
 use Rattle.theory.proofs.Drawing.{drawing-length, drawn-whole, drawn-table}
 use Rattle.theory.proofs.Orders.{in-places-length, packed-fit, packed-flags}
 
@@ -38,6 +39,11 @@ accepted-reply (suc k) e q = let z : _≡_ {A = ℕ} 0 1 = cc in absurd (omega a
 pub accepted-zero : (k : ℕ) (values : List ℕ) {r : Reply} → r ≡ reply k values → Accepted r → k ≡ 0
 accepted-zero zero values e h = refl
 accepted-zero (suc k) values e h = absurd (rw e at h)
+
+-- a reply has its refusal's number
+pub number-of : (k : ℕ) (values : List ℕ) → numberOf (reply k values) ≡ k
+number-of zero values = refl
+number-of (suc k) values = refl
 
 module _ (n : ℕ) (order c : List ℕ) (used root : ℕ) (few : n ≤ 10) (o : fitOrder n order ≡ true) (f : fitCells c ≡ true)
     (d : diagram n order c used root ≡ true) where
@@ -182,3 +188,11 @@ written n used root k order c label bytes after r l b g =
     let (z, v) = accepted-reply (refusal (writeRows n order c used root label bytes)) (b .answer) g in
     let (few, (o, (f, (q, (m, _))))) = passed (writeRows n order c used root label bytes) refl z in
     passed-stands n used root order c (few, (o, (f, (q, (m, tt)))))
+
+-- and so do those of print
+pub printed : (n used root pages : ℕ) (order c bytes after : List ℕ) (r : Reply) → length order ≡ places → Prints n order c used root bytes r after
+    → Gives r (pages ∷ []) → StandsFor n order (tableOf n c root) c used root
+printed n used root pages order c bytes after r l b g =
+    let rows = checkRows n order c used root in
+    let (z, v) = accepted-reply (refusal (printRows n order c used root bytes)) (b .answer) g in
+    passed-stands n used root order c (passed rows refl (split-passed rows (result (length (sheet c used)) (length bytes) ∷ []) refl z .0))

@@ -26,11 +26,7 @@ fn is_kept(order: Order, label: &[u8], cells: &[u16]) -> bool {
 
 fn refused(k: u8, order: Order, label: &[u8], cells: &[u16]) {
     print::refused(k);
-    if is_kept(order, label, cells) {
-        print::text(b" kept");
-    } else {
-        print::text(b" altered");
-    }
+    print::kept(is_kept(order, label, cells));
 }
 
 // The cells of so many records, and whether the others are 0.

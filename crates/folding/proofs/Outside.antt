@@ -1,7 +1,7 @@
 -- The flags outside a set: how many there are, and those of a set that one flag has left.
 -- Assumes nothing.
 use mathlib.Core.Path.{_≡_, refl, sym, ap, ap₂, _∙_}
-use mathlib.Core.Bool.{Bool, true, false}
+use mathlib.Core.Bool.{Bool, true}
 use mathlib.Core.List.{List, [], _∷_, _++_}
 use Prim.Native.Nat.{ℕ, zero, suc, _+_, _-_, _*_, _/_, _%_, _^_, _≤_, _<_}
 use native.Mathlib.Omega.{arith}
@@ -14,19 +14,11 @@ use Rattle.rule.specs.Tests.{addIf, keep}
 use Rattle.rule.specs.Sets.{setSize, stretch}
 use Rattle.theory.proofs.Member.{In, head, tail}
 use Rattle.theory.proofs.Bits.{from-in, bit-zero, bit-same, bit-other, clear-le}
+use Rattle.theory.proofs.Tests.{keep-append}
 use Rattle.theory.specs.Sets.{having}
 use Rattle.ways.specs.Ways.{placeOf}
 
 -- ---- what is kept
-
-keep-append : (p : ℕ → Bool) (xs ys : List ℕ) → keep p (xs ++ ys) ≡ keep p xs ++ keep p ys
-unfolding keep
-keep-append p [] ys = refl
-keep-append p (x ∷ xs) ys = go (p x) (keep-append p xs ys)
-  where
-    go : (b : Bool) → keep p (xs ++ ys) ≡ keep p xs ++ keep p ys → addIf b x (keep p (xs ++ ys)) ≡ addIf b x (keep p xs) ++ keep p ys
-    go true e = ap (λ (l : List ℕ). x ∷ l) e
-    go false e = e
 
 keep-same : (p q : ℕ → Bool) (xs : List ℕ) → ((x : ℕ) → In x xs → p x ≡ q x) → keep p xs ≡ keep q xs
 unfolding keep

@@ -16,7 +16,8 @@ use Rattle.rule.specs.Refusals.{refusal}
 use Rattle.rule.specs.Text.{readLine}
 use Rattle.rule.specs.Listing.{mostRows, flagsOf, rowsOf, listingRows, wordLine, listedOr, listing}
 use Rattle.parsing.specs.Final.{enough, Final}
-use Rattle.parsing.proofs.FirstLine.{Open, open-more, line-to, line-goes-on}
+use Rattle.theory.proofs.Lines.{line-goes-on}
+use Rattle.parsing.proofs.FirstLine.{Open, open-more, line-to}
 
 -- k bytes are all of the input, or more than a table's rows, or have a line end among them
 abbrev Suffices : List ℕ → ℕ → Type 0

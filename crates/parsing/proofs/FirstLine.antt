@@ -12,32 +12,22 @@ use lib.ListN.{length, getD, take}
 use lib.Seq.{take-length}
 use Rattle.rule.specs.Text.{readLine}
 use Rattle.rule.specs.Listing.{flagsFrom}
+use Rattle.theory.proofs.Lines.{line-ends, line-goes-on}
 
 -- ---- the line
 
-abbrev lineBy : Bool → ℕ → List ℕ → List ℕ × List ℕ
-lineBy e b bs = elim e [ true ↦ ([], bs) | false ↦ (b ∷ readLine bs .0, readLine bs .1) ]
-
-line-ends : (b : ℕ) (bs : List ℕ) → b ≡ 10 → readLine (b ∷ bs) .0 ≡ []
-unfolding readLine
-line-ends b bs e = ap (λ (q : Bool). lineBy q b bs .0) (eq-eqb b 10 e)
-
-pub line-goes-on : (b : ℕ) (bs : List ℕ) → (b ≡ 10 → ⊥) → readLine (b ∷ bs) .0 ≡ b ∷ readLine bs .0
-unfolding readLine
-line-goes-on b bs d = ap (λ (q : Bool). lineBy q b bs .0) (ne-eqb b 10 d)
-
 pub line-to : (l : List ℕ) (i : ℕ) → i < length l → ((k : ℕ) → k < i → getD l k 0 ≡ 10 → ⊥) → getD l i 0 ≡ 10 → take i l ≡ readLine l .0
 line-to [] i h f e = absurd (not-suc-le-zero h)
-line-to (b ∷ bs) zero h f e = sym (line-ends b bs e)
+line-to (b ∷ bs) zero h f e = sym (ap (λ (r : List ℕ × List ℕ). r .0) (line-ends b bs e))
 line-to (b ∷ bs) (suc i) h f e =
     ap (λ (l : List ℕ). b ∷ l) (line-to bs i (le-of-suc-le-suc h) (λ k j. f (suc k) (omega arith)) e)
-    ∙ sym (line-goes-on b bs (f 0 (omega arith)))
+    ∙ sym (ap (λ (r : List ℕ × List ℕ). r .0) (line-goes-on b bs (f 0 (omega arith))))
 
 line-all : (l : List ℕ) → ((k : ℕ) → k < length l → getD l k 0 ≡ 10 → ⊥) → l ≡ readLine l .0
 unfolding readLine
 line-all [] f = refl
 line-all (b ∷ bs) f =
-    ap (λ (l : List ℕ). b ∷ l) (line-all bs (λ k j. f (suc k) (omega arith))) ∙ sym (line-goes-on b bs (f 0 (omega arith)))
+    ap (λ (l : List ℕ). b ∷ l) (line-all bs (λ k j. f (suc k) (omega arith))) ∙ sym (ap (λ (r : List ℕ × List ℕ). r .0) (line-goes-on b bs (f 0 (omega arith))))
 
 -- ---- the flags
 

@@ -18,6 +18,8 @@ use Rattle.rule.specs.declared.answer.Loaded.{Loaded}
 use Rattle.rule.specs.declared.answer.Loaded.the-variants as the-loaded
 use Rattle.rule.specs.declared.answer.Written.{Written}
 use Rattle.rule.specs.declared.answer.Written.the-variants as the-written
+use Rattle.rule.specs.declared.answer.Printed.{Printed}
+use Rattle.rule.specs.declared.answer.Printed.the-variants as the-printed
 
 -- ---- case by case
 
@@ -60,3 +62,8 @@ loadedReply order (the-loaded.Refused k) = refused k (0 ∷ 0 ∷ 0 ∷ order .p
 abbrev pub writtenReply : Written → Reply
 writtenReply (the-written.Bytes length) = accepted (length ∷ [])
 writtenReply (the-written.Refused k) = refused k (0 ∷ [])
+
+-- print: the number of pages
+abbrev pub printedReply : Printed → Reply
+printedReply (the-printed.Pages pages) = accepted (pages ∷ [])
+printedReply (the-printed.Refused k) = refused k (0 ∷ [])

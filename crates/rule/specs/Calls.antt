@@ -1,7 +1,7 @@
 -- Each call's outcome: a relation between what it is given and what it leaves, accepted or refused (document 01). A call's contract is exactly its
--- relation here, at its answer's reply; the file calls are in Files.antt. What the papers leave free is the sequence of a store's records, with the node
--- numbers that follow from it. Buffers that are lent to be read alone (a table, the cells of check, walk and tabulate) stay as they are: the language sees to
--- it.
+-- relation here, at its answer's reply; the file calls are in Files.antt, print in Sheet.antt. What the papers leave free is the sequence of a store's
+-- records, with the node numbers that follow from it. Buffers that are lent to be read alone (a table, the cells of check, walk, tabulate, write and print)
+-- stay as they are: the language sees to it.
 -- Assumes nothing.
 use mathlib.Core.Path.{_≡_}
 use mathlib.Core.Bool.{true, cond, _||_}

@@ -1,21 +1,23 @@
--- Demands 2 and 3, each as one statement over the outcomes of Calls.antt and Files.antt, and four more: what holds of the set and the number that a walk hands
--- back, which order pack takes of several, in which sequence records stand, and that what the writer writes the reader reads. (Demand 1 is the contracts
--- themselves: no call has a condition, each gives its number and every lent buffer, and the check proves that it reads, writes and ends within what it was
--- given.)
+-- Demands 2 and 3, each as one statement over the outcomes of Calls.antt, Files.antt and Sheet.antt, and five more: what holds of the set and the number that
+-- a walk hands back, which order pack takes of several, in which sequence records stand, that what the writer writes the reader reads, and that printed pages
+-- give back every record. (Demand 1 is the contracts themselves: no call has a condition, each gives its number and every lent buffer, and the check proves
+-- that it reads, writes and ends within what it was given.)
 -- Assumes nothing.
 use mathlib.Core.Path.{_≡_}
 use mathlib.Core.Logic.{_≢_, _↔_}
 use mathlib.Core.Bool.{true}
-use mathlib.Core.List.{List, [], _∷_, List·Memᴰ}
+use mathlib.Core.List.{List, [], _∷_, map, List·Memᴰ}
 use mathlib.Core.Option.{some}
 use Prim.Native.Nat.{ℕ, _+_, _*_, _^_, _≤_, _<_}
+use lib.Dec.{eqb}
 use lib.ListN.{length, getD, take}
-use Rattle.rule.specs.Bits.{bit}
+use Rattle.rule.specs.Bits.{bit, below}
+use Rattle.rule.specs.Tests.{each}
 use Rattle.rule.specs.Table.{fitLength, fitRows, depends, restrict}
 use Rattle.rule.specs.Level.{levelCount, size}
 use Rattle.rule.specs.Order.{places, flags, fitOrder, askedBefore, Lex}
 use Rattle.rule.specs.Sets.{setSize}
-use Rattle.rule.specs.Cells.{width, fitCells, room, flagAt, lowAt, highAt, laidIn, recordsIn}
+use Rattle.rule.specs.Cells.{width, fitCells, room, flagAt, lowAt, highAt, RecordValues, laidIn, recordIn, recordsIn}
 use Rattle.rule.specs.Walk.{recordsPassed, flagsAsked, tableOf}
 use Rattle.rule.specs.Sound.{sound}
 use Rattle.rule.specs.Diagram.{diagram, asking}
@@ -25,6 +27,7 @@ use Rattle.rule.specs.Results.{Making, madeIn, needed, rootBy}
 use Rattle.rule.specs.Reply.{Reply, accepted, refused, numberOf, Accepted}
 use Rattle.rule.specs.Calls.{State, Build, Check, Walks, Tabulates, Tabulate, Walk, Make, Pack}
 use Rattle.rule.specs.Files.{bytesOf, reading, recordsFiled, labelOf, Reads, Writes}
+use Rattle.rule.specs.Sheet.{lineLength, pageLines, pageBytes, pagesFor, sheetLines, sheet, Prints, linesIn, readPages}
 use Rattle.rule.specs.History.{Call, Calls, Fed, feed, Opens, BeginsOpen, Book, inBook, enter, bookOf}
 
 -- n flags in a fit order, and a fit table of theirs
@@ -74,6 +77,9 @@ pub record Demand2 : Type 0 where
   -- and of the writer, which takes a diagram too
   pub written : (n used root k : ℕ) (order c label bytes after : List ℕ) (r : Reply) → length order ≡ places → Writes n order c used root label bytes r after
       → Gives r (k ∷ []) → StandsFor n order (tableOf n c root) c used root
+  -- and of print, which takes one too (request 4)
+  pub printed : (n used root pages : ℕ) (order c bytes after : List ℕ) (r : Reply) → length order ≡ places → Prints n order c used root bytes r after
+      → Gives r (pages ∷ []) → StandsFor n order (tableOf n c root) c used root
   -- "In one store two node numbers are equal exactly when their rules agree on every row."
   pub canonical : (n used k m : ℕ) (order c : List ℕ) → n ≤ 10 → length order ≡ places → fitOrder n order ≡ true → sound n order c used ≡ true → k ≤ used + 1
       → m ≤ used + 1 → (tableOf n c k ≡ tableOf n c m) ↔ (k ≡ m)
@@ -282,3 +288,33 @@ pub record RuleFiles : Type 0 where
       → Reads written cells p e → Gives p (n′ ∷ used′ ∷ root′ ∷ order′)
       → length written ≤ length bytes → Writes n′ order′ e used′ root′ (labelRead cells written) bytes q after
       → Gives q (length written ∷ []) × (take (length written) after ≡ written)
+
+-- ---- the printed sheet (document 02, request 4)
+
+-- the records that some pages give back, their nodes left out
+abbrev pub recordsRead : ℕ → List ℕ → List RecordValues
+recordsRead pages bytes = map (λ e. e .1) (readPages pages bytes)
+
+pub record PrintedSheet : Type 0 where
+  -- "pages of 60 lines, each 20 characters and a line end (0A)": of every diagram that check accepts
+  pub lines : (n used root : ℕ) (order c : List ℕ) (r : Reply) → Check n order c used root r → Accepted r
+      → (length (sheetLines c used) ≡ pagesFor used * pageLines) × (each (λ line. eqb (length line) lineLength) (sheetLines c used) ≡ true)
+      × (linesIn (pagesFor used * pageLines) (sheet c used) ≡ sheetLines c used) × (length (sheet c used) ≡ pagesFor used * pageBytes)
+  -- "a lent page buffer that is too short gives 10, tested last": what check refuses, print refuses under the same number; what check accepts, it prints where
+  -- the bytes of so many pages are lent, and refuses under 10 where fewer are. A refusal leaves the bytes as they were
+  pub refuses : (n used root : ℕ) (order c bytes after : List ℕ) (q r : Reply) → Check n order c used root q → Prints n order c used root bytes r after
+      → (numberOf q ≢ 0 → (numberOf r ≡ numberOf q) × (after ≡ bytes))
+      × (numberOf q ≡ 0 → length bytes < pagesFor used * pageBytes → (numberOf r ≡ 10) × (after ≡ bytes))
+      × (numberOf q ≡ 0 → pagesFor used * pageBytes ≤ length bytes → Gives r (pagesFor used ∷ []))
+  -- "The pages give back every record": read from the bytes that an accepted call left, as many pages as it handed back give each used record, with its node
+  pub records : (n used root pages : ℕ) (order c bytes after : List ℕ) (r : Reply) → Prints n order c used root bytes r after → Gives r (pages ∷ [])
+      → readPages pages after ≡ map (λ k. (k + 2, recordIn c k)) (below used)
+  -- and each cell: laid in any cells that hold them, the records are the used cells that were printed; in as many cells they are all of them
+  pub cells : (n used root pages : ℕ) (order c bytes after : List ℕ) (r : Reply) → Prints n order c used root bytes r after → Gives r (pages ∷ [])
+      → (d : List ℕ) → used ≤ room d
+      → (take (used * width) (laidIn d (recordsRead pages after)) ≡ take (used * width) c) × (length d ≡ length c → laidIn d (recordsRead pages after) ≡ c)
+  -- "n, the order and an end-node root aren't printed": where two diagrams have the same records, their pages are the same (any other root is the last node
+  -- printed: `Demand2.root-last`)
+  pub alone : (n m used root top pages more : ℕ) (order other c d bytes lent after left : List ℕ) (r q : Reply)
+      → Prints n order c used root bytes r after → Gives r (pages ∷ []) → Prints m other d used top lent q left → Gives q (more ∷ [])
+      → recordsIn d used ≡ recordsIn c used → (more ≡ pages) × (take (pages * pageBytes) left ≡ take (pages * pageBytes) after)

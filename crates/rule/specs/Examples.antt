@@ -6,7 +6,7 @@ use mathlib.Core.List.{List, [], _∷_, _++_}
 use Prim.Native.Nat.{ℕ, _+_, _-_, _*_}
 use Prim.Native.String.{String}
 use lib.Dec.{eqb}
-use lib.ListN.{length, replicate}
+use lib.ListN.{length, getD, replicate}
 use Rattle.rule.specs.Tests.{each, same}
 use Rattle.rule.specs.Level.{size}
 use Rattle.rule.specs.Order.{inPlaces, rising, orders, packed}
@@ -20,6 +20,7 @@ use Rattle.rule.specs.Reply.{Reply, reply, numberOf, valuesOf}
 use Rattle.rule.specs.Files.{reading, readNumber, readValues, readCells, writeRows}
 use Rattle.rule.specs.Text.{text}
 use Rattle.rule.specs.Listing.{flagsOf, rowsOf, askingPacked, listing}
+use Rattle.rule.specs.Sheet.{pagesFor, sheetLines, printRows, readRecord, inUse}
 
 -- the digits of a text, and the flag count and packed order of the table that they are
 abbrev pub digits : String → List ℕ
@@ -59,6 +60,14 @@ pub data Example : Type 0 where
   fills : List ℕ → List RecordValues → Example
   -- the listing of the table's line is this text
   lists : String → String → Example
+  -- so many records are printed on so many pages
+  fillsPages : ℕ → ℕ → Example
+  -- under the order, and with so many lent bytes, printing the records has this number, 0 for none
+  lends : String → List RecordValues → ℕ → ℕ → Example
+  -- of all lines printed for the records, this one, from 0, is this text
+  prints : List RecordValues → ℕ → String → Example
+  -- a record line is read: its node and its record
+  readsLine : String → ℕ → RecordValues → Example
 
 -- so many records of cells, that a file's records are read into and a table is drawn in: not cleared
 abbrev pub lentRecords : ℕ
@@ -123,6 +132,13 @@ holds (stands t o rs) =
 holds (strays t o rs) = isDrawn t o rs && not (isInSequence o rs)
 holds (fills f rs) = same (readCells lentCells f (reading lentCells f)) (inLent rs)
 holds (lists t s) = same (listing (text t)) (text s)
+holds (fillsPages records pages) = eqb (pagesFor records) pages
+holds (lends o rs many k) =
+    eqb (refusal (printRows (length (digits o)) (inPlaces (digits o)) (recordCells rs) (length rs) (length rs + 1) (replicate many 0))) k
+holds (readsLine s m r) =
+    let (node, values) = readRecord (text s) in
+    inUse (text s) && same (node ∷ recordCells (values ∷ [])) (m ∷ recordCells (r ∷ []))
+holds (prints rs i s) = same (getD (sheetLines (recordCells rs) (length rs)) i []) (text s)
 
 unfoldable pub examples : List Example
 examples =
@@ -187,4 +203,36 @@ examples =
     ∷ fills (0x0B ∷ 3 ∷ 0 ∷ 1 ∷ 2 ∷ 5 ∷ 0 ∷ 2 ∷ 1 ∷ 0 ∷ 0 ∷ 0 ∷ 2 ∷ 0 ∷ 0 ∷ 1 ∷ 0 ∷ 1 ∷ 2 ∷ 0 ∷ 0 ∷ 0 ∷ 1 ∷ 3 ∷ 0 ∷ 0 ∷ 0 ∷ 0 ∷ 4 ∷ 0 ∷ 5 ∷ 0 ∷ [])
     (branch 2 0 1 ∷ branch 2 1 0 ∷ branch 1 2 0 ∷ branch 1 3 0 ∷ branch 0 5 4 ∷ [])
     ∷ refusedFile (0x0B ∷ 3 ∷ 0 ∷ 1 ∷ 2 ∷ 3 ∷ 0 ∷ 1 ∷ 0 ∷ 0 ∷ 3 ∷ 0 ∷ 2 ∷ 0 ∷ 0 ∷ 1 ∷ 0 ∷ 0 ∷ 0 ∷ 0 ∷ 2 ∷ 0 ∷ []) 6
+    -- request 4: pages at the edges of 58 record lines
+    ∷ fillsPages 0 1
+    ∷ fillsPages 1 1
+    ∷ fillsPages 57 1
+    ∷ fillsPages 58 1
+    ∷ fillsPages 59 2
+    ∷ fillsPages 116 2
+    ∷ fillsPages 117 3
+    -- a page for the yes of no flags, and for four records; under another order these are no diagram, and 6 stands ahead of 10
+    ∷ lends "" [] 1260 0
+    ∷ lends "" [] 1259 10
+    ∷ lends "012" majority 1260 0
+    ∷ lends "012" majority 1259 10
+    ∷ lends "201" majority 0 6
+    -- four records leave the other record lines unused; no records have a page too
+    ∷ prints majority 0 " node fl   low  high"
+    ∷ prints majority 1 "    2  2     0     1"
+    ∷ prints majority 4 "    5  0     3     4"
+    ∷ prints majority 5 "                    "
+    ∷ prints majority 58 "                    "
+    ∷ prints majority 59 "page               1"
+    ∷ prints [] 1 "                    "
+    ∷ prints [] 59 "page               1"
+    -- the 59th record opens a second page; numbers of four digits, which no diagram has (lines are defined for any records)
+    ∷ prints (replicate 59 (branch 9 1024 1023)) 58 "   59  9  1024  1023"
+    ∷ prints (replicate 59 (branch 9 1024 1023)) 59 "page               1"
+    ∷ prints (replicate 59 (branch 9 1024 1023)) 60 " node fl   low  high"
+    ∷ prints (replicate 59 (branch 9 1024 1023)) 61 "   60  9  1024  1023"
+    ∷ prints (replicate 59 (branch 9 1024 1023)) 62 "                    "
+    ∷ prints (replicate 59 (branch 9 1024 1023)) 119 "page               2"
+    ∷ readsLine "   60  9  1024  1023" 60 (branch 9 1024 1023)
+    ∷ readsLine "    2 10     0     1" 2 (branch 10 0 1)
     ∷ []

@@ -16,7 +16,7 @@ use Rattle.rule.specs.Walk.{tableOf}
 use Rattle.rule.specs.Diagram.{diagram}
 use Rattle.rule.specs.Sequence.{drawing}
 use Rattle.rule.specs.Refusals.{Row, refusal, flagCount, orderPlaces, cells, diagramRecords, node, result}
-use Rattle.rule.specs.Reply.{Reply, reply, leaves}
+use Rattle.rule.specs.Reply.{Reply, reply, WritesRun}
 
 -- ---- what a file is made of
 
@@ -296,7 +296,6 @@ writeRows n o c used root l bytes =
     ∷ []
 
 -- write takes n, an order, cells, used records, a root, a label and lent bytes, "hands back the file's length", and "leaves bytes past the file as found"
-pub record Writes (n : ℕ) (o c : List ℕ) (used root : ℕ) (l bytes : List ℕ) (r : Reply) (after : List ℕ) : Type 0 where
-  pub answer : r ≡ reply (refusal (writeRows n o c used root l bytes)) (length (fileOf n o c used root l) ∷ [])
-  pub bytes-are : after
-      ≡ leaves (refusal (writeRows n o c used root l bytes)) (fileOf n o c used root l ++ drop (length (fileOf n o c used root l)) bytes) bytes
+abbrev pub Writes : ℕ → List ℕ → List ℕ → ℕ → ℕ → List ℕ → List ℕ → Reply → List ℕ → Type 0
+Writes n o c used root l bytes r after =
+    WritesRun (refusal (writeRows n o c used root l bytes)) (fileOf n o c used root l) (length (fileOf n o c used root l) ∷ []) bytes r after

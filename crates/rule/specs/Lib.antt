@@ -18,6 +18,7 @@ pub mod Calls
 pub mod Files
 pub mod Text
 pub mod Listing
+pub mod Sheet
 pub mod History
 pub mod Demands
 pub mod Examples

@@ -1,5 +1,5 @@
 -- The refusal table, row by row, and for every call the rows that it tests, in its sequence (document 01, "Refused, by where it is found").
--- The reader's own sequence and the writer's rows are in Files.antt.
+-- The reader's own sequence and the writer's rows are in Files.antt, print's rows in Sheet.antt.
 -- Assumes nothing.
 use mathlib.Core.Bool.{Bool, true, false, not, _&&_, _||_}
 use mathlib.Core.List.{List, [], _∷_, _++_, map}

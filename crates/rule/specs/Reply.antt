@@ -1,8 +1,9 @@
 -- What a call hands back and leaves, as the paper counts it (document 01, "Refused, by where it is found").
 -- Assumes nothing.
-use mathlib.Core.List.{List, map}
+use mathlib.Core.Path.{_≡_}
+use mathlib.Core.List.{List, _++_, map}
 use Prim.Native.Nat.{ℕ, zero, suc}
-use lib.ListN.{getD}
+use lib.ListN.{length, getD, drop}
 
 -- what a call hands back, as the paper counts it: accepted with its values, or refused with its number and what stands in the values' place
 pub data Reply : Type 0 where
@@ -36,3 +37,9 @@ Accepted (refused k values) = ⊥
 abbrev pub leaves : {A : Type 0} → ℕ → A → A → A
 leaves zero new old = new
 leaves (suc k) new old = old
+
+-- a call that writes a run of bytes into lent ones, under a refusal's number: where it is accepted, they begin with the run and are "as found" past it; where
+-- it is refused, all are
+pub record WritesRun (k : ℕ) (run values bytes : List ℕ) (r : Reply) (after : List ℕ) : Type 0 where
+  pub answer : r ≡ reply k values
+  pub bytes-are : after ≡ leaves k (run ++ drop (length run) bytes) bytes

@@ -1,11 +1,12 @@
--- Text in bytes, as programs read and print it (document 01, "The listing program").
+-- Text in bytes, as programs read and print it (document 01, "The listing program"; document 02, request 4).
 -- Assumes nothing.
 use mathlib.Core.Bool.{true, false}
 use mathlib.Core.List.{List, [], _∷_, _++_}
-use Prim.Native.Nat.{ℕ, zero, suc, _+_, _/_, _%_}
+use Prim.Native.Nat.{ℕ, zero, suc, _+_, _-_, _/_, _%_}
 use Prim.Native.Char.{code}
 use Prim.Native.String.{String}
 use lib.Dec.{eqb, ltb}
+use lib.ListN.{length, replicate}
 
 -- a text in bytes
 unfoldable pub text : String → List ℕ
@@ -23,6 +24,13 @@ decimalIn (suc fuel) x = elim (ltb x 10) [ true ↦ digitByte x ∷ [] | false �
 
 abbrev pub decimal : ℕ → List ℕ
 decimal x = decimalIn x x
+
+abbrev pub blank : ℕ
+blank = 0x20
+
+-- a number "right-aligned" in so many places (request 4)
+abbrev pub right : ℕ → ℕ → List ℕ
+right places x = replicate (places - length (decimal x)) blank ++ decimal x
 
 -- a blank and a number
 abbrev pub number : ℕ → List ℕ

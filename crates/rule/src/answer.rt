@@ -56,3 +56,9 @@ pub enum Written {
     Bytes(usize),
     Refused(u8),
 }
+
+// Print: the number of pages.
+pub enum Printed {
+    Pages(u16),
+    Refused(u8),
+}

@@ -11,6 +11,7 @@ pub use answer::Drawn;
 pub use answer::Loaded;
 pub use answer::Made;
 pub use answer::Packed;
+pub use answer::Printed;
 pub use answer::Read;
 pub use answer::Said;
 pub use answer::Written;

@@ -17,11 +17,11 @@ use Rattle.runs.proofs.Puts.{puts-more}
 abbrev digitsBy : Bool → ℕ → ℕ → List ℕ
 digitsBy b fuel x = elim b [ true ↦ digitByte x ∷ [] | false ↦ decimalIn fuel (x / 10) ++ (digitByte (x % 10) ∷ []) ]
 
-one-digit : (fuel x : ℕ) → x < 10 → decimalIn (suc fuel) x ≡ digitByte x ∷ []
+pub one-digit : (fuel x : ℕ) → x < 10 → decimalIn (suc fuel) x ≡ digitByte x ∷ []
 unfolding decimalIn
 one-digit fuel x h = ap (λ (b : Bool). digitsBy b fuel x) (lt-ltb x 10 h)
 
-more-digits : (fuel x : ℕ) → 10 ≤ x → decimalIn (suc fuel) x ≡ decimalIn fuel (x / 10) ++ (digitByte (x % 10) ∷ [])
+pub more-digits : (fuel x : ℕ) → 10 ≤ x → decimalIn (suc fuel) x ≡ decimalIn fuel (x / 10) ++ (digitByte (x % 10) ∷ [])
 unfolding decimalIn
 more-digits fuel x h = ap (λ (b : Bool). digitsBy b fuel x) (le-ltb x 10 h)
 
@@ -60,7 +60,7 @@ abbrev tens : ℕ → ℕ
 tens zero = 10
 tens (suc k) = tens k * 10
 
-length-one : (x : ℕ) → x < 10 → length (decimal x) ≡ 1
+pub length-one : (x : ℕ) → x < 10 → length (decimal x) ≡ 1
 length-one x h = ap length (decimal-few x h)
 
 pub length-more : (x : ℕ) → 10 ≤ x → length (decimal x) ≡ length (decimal (x / 10)) + 1
@@ -73,6 +73,9 @@ digits-le (suc k) x h =
       | yes l ↦ omega (arith, length-one x l)
       | no d ↦ let l : 10 ≤ x = omega arith in omega (arith, length-more x l, digits-le k (x / 10) (omega arith))
     ]
+
+pub digits-two : (x : ℕ) → x < 100 → length (decimal x) ≤ 2
+digits-two x h = digits-le 1 x (omega arith)
 
 -- a number of 16 bits, alone and with its blank
 pub digits-fit : (x : ℕ) → x < 65536 → length (decimal x) ≤ 5

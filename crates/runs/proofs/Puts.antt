@@ -6,6 +6,7 @@ use Prim.Native.Nat.{ℕ, _+_, _≤_, _<_}
 use native.Mathlib.Omega.{arith}
 use lib.ListN.{length, take, drop, set, length-append, length-drop}
 use lib.Seq.{length-take-le, take-at, take-length, drop-append-add, drop-drop, sets-eq, paste, paste-zero}
+use Rattle.rule.specs.Reply.{accepted, WritesRun}
 use Rattle.runs.specs.Run.{over, Puts}
 
 module _ (b : List ℕ) (at : ℕ) (x : List ℕ) (h : at + length x ≤ length b) where
@@ -73,3 +74,10 @@ puts-within {b} {x} {d} {at} p h e =
 pub puts-run : (b : List ℕ) (at : ℕ) (run : List ℕ) (i : ℕ) {d : List ℕ} → d ≡ paste b at run i → i ≡ length run → Puts b at run (at + i) d
 unfolding over
 puts-run b at run i e f = record { next-is = omega arith; after-is = e ∙ rw (f, take-length) }
+
+-- a call that writes a run into the first of the lent bytes, accepted
+pub run-accepted : {k r : ℕ} {run bytes after : List ℕ} (values : List ℕ) → k ≡ 0 → Puts bytes 0 run r after → WritesRun k run values bytes (accepted values) after
+unfolding over
+run-accepted {run = run} values z p =
+    let whole : 0 + length run ≡ length run = omega arith in
+    record { answer = rw z; bytes-are = p .after-is ∙ rw (z, whole) }

@@ -7,7 +7,7 @@ ghost use Rattle.rule.specs.Text.{decimal, number, lineEnd};
 ghost use Rattle.runs.specs.Run.{Puts};
 
 // Writes a number in decimal digits.
-fn put_decimal(bytes: &mut [u8], at: usize, x: u16) -> usize
+pub fn put_decimal(bytes: &mut [u8], at: usize, x: u16) -> usize
     requires { ⌜ at + length (decimal x) ≤ length (now bytes) ⌝ }
     ensures { λ r. ⌜ Puts (now (bytes .entry)) at (decimal x) r (now (bytes .exit)) ⌝ }
 {

@@ -2,10 +2,9 @@
 -- Assumes nothing.
 use mathlib.Core.Path.{_≡_, refl, sym, ap, _∙_}
 use mathlib.Core.Logic.{_≢_, inl, inr}
-use mathlib.Core.List.{[], _∷_, _++_, map}
+use mathlib.Core.List.{List, [], _∷_, _++_, map, map-append}
 use Prim.Native.Nat.{ℕ, zero, suc, _+_, _*_, _/_, _%_, _^_, _≤_, _<_, suc-le-suc}
 use native.Mathlib.Nat.{add-zero, zero-add, le-of-suc-le-suc, not-suc-le-zero, eq-or-lt-of-le, div-one, div-div-eq-div-mul, pow-succ'}
-use native.Mathlib.Numerals.{add-one}
 use native.Mathlib.Omega.{arith}
 use lib.ListN.{length, getD, length-map}
 use Rattle.rule.specs.Bits.{bit, setBit, from, below}
@@ -45,16 +44,22 @@ map-from f a (suc n) (suc k) d h = map-from f (suc a) n k d (le-of-suc-le-suc h)
 pub map-below : {A : Type 0} (f : ℕ → A) (n k : ℕ) (d : A) → k < n → getD (map f (below n)) k d ≡ f k
 map-below f n k d h = map-from f 0 n k d h ∙ ap f (zero-add k)
 
--- one entry more
-from-more : {A : Type 0} (f : ℕ → A) (a k : ℕ) → map f (from a (suc k)) ≡ map f (from a k) ++ (f (a + k) ∷ [])
+-- numbers and those behind them
+pub from-append : (a k m : ℕ) → from a (k + m) ≡ from a k ++ from (a + k) m
 unfolding from
-from-more f a zero = let e : a ≡ a + 0 = omega arith in rw (← e)
-from-more f a (suc k) =
-    let e : suc a + k ≡ a + suc k = omega arith in
-    ap (λ l. f a ∷ l) (from-more f (suc a) k ∙ rw e)
+from-append a zero m = let e : 0 + m ≡ m = omega arith in let f : a + 0 ≡ a = omega arith in rw (e, f)
+from-append a (suc k) m =
+    let e : suc k + m ≡ suc (k + m) = omega arith in
+    let f : suc a + k ≡ a + suc k = omega arith in
+    rw e (ap (λ (l : List ℕ). a ∷ l) (from-append (suc a) k m ∙ rw f))
+
+-- one more
+pub from-next : (a k : ℕ) → from a (k + 1) ≡ from a k ++ ((a + k) ∷ [])
+unfolding from
+from-next a k = from-append a k 1
 
 pub below-more : {A : Type 0} (f : ℕ → A) (k : ℕ) → map f (below (k + 1)) ≡ map f (below k) ++ (f k ∷ [])
-below-more f k = let e : 0 + k ≡ k = omega arith in rw add-one (from-more f 0 k ∙ rw e)
+below-more f k = let e : 0 + k ≡ k = omega arith in ap (map f) (from-next 0 k) ∙ map-append f (below k) ((0 + k) ∷ []) ∙ rw e
 
 pub length-below : {A : Type 0} (f : ℕ → A) (k : ℕ) → length (map f (below k)) ≡ k
 length-below f k = length-map (below k) f ∙ length-from 0 k

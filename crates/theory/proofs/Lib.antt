@@ -1,6 +1,8 @@
 pub mod Member
 pub mod Bits
 pub mod Tests
+pub mod Flat
+pub mod Lines
 pub mod Perm
 pub mod Least
 pub mod Distinct

@@ -1,14 +1,15 @@
 -- Rows of the refusal table that apply or pass, and the reply that follows.
 -- Assumes nothing.
-use mathlib.Core.Path.{_≡_, refl, ap}
+use mathlib.Core.Path.{_≡_, refl, ap, _∙_}
 use mathlib.Core.Bool.{Bool, true, false, _&&_}
 use mathlib.Core.List.{List, [], _∷_, _++_, map}
 use Prim.Native.Nat.{ℕ, zero, suc}
 use native.Mathlib.Omega.{arith}
 use borrow.Author.Tests.{ltb-true}
 use lib.Dec.{ltb}
+use lib.ListN.{length, drop}
 use Rattle.rule.specs.Refusals.{Row, refusal}
-use Rattle.rule.specs.Reply.{Reply, accepted, refused, reply, leaves}
+use Rattle.rule.specs.Reply.{Reply, accepted, refused, reply, leaves, WritesRun}
 use Rattle.theory.proofs.Tests.{and-split}
 
 -- the number of each row is one of the table's, not 0
@@ -47,6 +48,11 @@ passed-more [] more h e = refl
 passed-more ((true, k) ∷ rows) more h e = let p = ltb-true 0 k (and-split (ltb 0 k) (numbered rows) h .0) in absurd (omega arith)
 passed-more ((false, k) ∷ rows) more h e = passed-more rows more (and-split (ltb 0 k) (numbered rows) h .1) e
 
+pub split-passed : (rows more : List Row) → numbered rows ≡ true → refusal (rows ++ more) ≡ 0 → (refusal rows ≡ 0) × (refusal more ≡ 0)
+split-passed [] more h e = (refl, e)
+split-passed ((true, k) ∷ rows) more h e = let p = ltb-true 0 k (and-split (ltb 0 k) (numbered rows) h .0) in absurd (omega arith)
+split-passed ((false, k) ∷ rows) more h e = split-passed rows more (and-split (ltb 0 k) (numbered rows) h .1) e
+
 -- the reply under a refusal
 pub refused-reply : (k : ℕ) (values : List ℕ) → (k ≡ 0 → ⊥) → refused k (map (λ v. 0) values) ≡ reply k values
 refused-reply zero values d = absurd (d refl)
@@ -56,6 +62,13 @@ refused-reply (suc k) values d = refl
 pub refused-kept : {A : Type 0} (k : ℕ) (new old : A) → (k ≡ 0 → ⊥) → old ≡ leaves k new old
 refused-kept zero new old d = absurd (d refl)
 refused-kept (suc k) new old d = refl
+
+pub run-refused : {k j : ℕ} (run values bytes : List ℕ) → k ≡ j → (k ≡ 0 → ⊥) → WritesRun j run values bytes (refused k (map (λ v. 0) values)) bytes
+run-refused {k} run values bytes e d =
+    record {
+      answer = refused-reply k values d ∙ ap (λ (i : ℕ). reply i values) e;
+      bytes-are = refused-kept k (run ++ drop (length run) bytes) bytes d ∙ ap (λ (i : ℕ). leaves i (run ++ drop (length run) bytes) bytes) e;
+    }
 
 -- a reply tells the number that it came of, and the values
 abbrev isRefused : Reply → ℕ

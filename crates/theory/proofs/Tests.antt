@@ -2,8 +2,8 @@
 -- Assumes nothing.
 use mathlib.Core.Path.{_≡_, refl, sym, ap, ap₂, _∙_}
 use mathlib.Core.Logic.{_⊎_, inl, inr}
-use mathlib.Core.Bool.{Bool, true, false, cond, _&&_, true≢false, false≢true}
-use mathlib.Core.List.{List, [], _∷_}
+use mathlib.Core.Bool.{Bool, true, false, cond, _&&_, true≢false, false≢true, _||_}
+use mathlib.Core.List.{List, [], _∷_, _++_}
 use Prim.Native.Nat.{ℕ, zero, suc, _≤_, _<_, suc-le-suc}
 use native.Mathlib.Omega.{arith}
 use borrow.Author.Tests.{eqb-true, eq-eqb}
@@ -27,6 +27,10 @@ tested false f g = inr (refl, λ p. false≢true (g p))
 pub and-split : (a b : Bool) → (a && b) ≡ true → (a ≡ true) × (b ≡ true)
 and-split true b e = (refl, e)
 and-split false b e = absurd (false≢true e)
+
+pub or-first : (a b : Bool) → (a || b) ≡ false → a ≡ false
+or-first true b e = e
+or-first false b e = refl
 
 pub and-join : {a b : Bool} → a ≡ true → b ≡ true → (a && b) ≡ true
 and-join e f = rw (e, f)
@@ -116,6 +120,15 @@ module _ {A : Type 0} (p : A → Bool) where
       go true e (inr k) ih = tail (ih k)
       go false e (inl k) ih = absurd (true≢false (sym h ∙ ap p k ∙ e))
       go false e (inr k) ih = ih k
+
+  pub keep-append : (l m : List A) → keep p (l ++ m) ≡ keep p l ++ keep p m
+  unfolding keep
+  keep-append [] m = refl
+  keep-append (x ∷ l) m = go (p x) (keep-append l m)
+    where
+      go : (b : Bool) → keep p (l ++ m) ≡ keep p l ++ keep p m → addIf b x (keep p (l ++ m)) ≡ addIf b x (keep p l) ++ keep p m
+      go true e = ap (λ (r : List A). x ∷ r) e
+      go false e = e
 
   pub length-keep : (l : List A) → length (keep p l) ≤ length l
   unfolding keep

@@ -1,8 +1,7 @@
 -- How often a flag stands in a part of a list that grows by one.
 -- Assumes nothing.
-use mathlib.Core.Path.{_≡_, refl, sym, ap, _∙_}
-use mathlib.Core.Bool.{Bool, true, false}
-use mathlib.Core.List.{List, [], _∷_, _++_, map}
+use mathlib.Core.Path.{_≡_, sym, _∙_}
+use mathlib.Core.List.{List, [], _∷_, map}
 use Prim.Native.Nat.{ℕ, _+_, _<_}
 use native.Mathlib.Numerals.{add-one}
 use native.Mathlib.Omega.{arith}
@@ -10,21 +9,13 @@ use borrow.Author.Tests.{eq-eqb, ne-eqb}
 use lib.Dec.{eqb}
 use lib.ListN.{length, getD, take, length-append, length-map}
 use lib.Seq.{take-suc}
-use Rattle.rule.specs.Tests.{addIf, keep}
+use Rattle.rule.specs.Tests.{keep}
 use Rattle.rule.specs.Order.{times}
+use Rattle.theory.proofs.Tests.{keep-append}
 
 -- an order's ten places, as owning the order tells it
 pub ten : (l : List ℕ) → length (map (λ (x : ℕ). x) l) ≡ 10 → length l ≡ 10
 ten l e = sym (length-map l (λ x. x)) ∙ e
-
-keep-append : (p : ℕ → Bool) (l m : List ℕ) → keep p (l ++ m) ≡ keep p l ++ keep p m
-unfolding keep
-keep-append p [] m = refl
-keep-append p (x ∷ l) m = go (p x) (keep-append p l m)
-  where
-    go : (b : Bool) → keep p (l ++ m) ≡ keep p l ++ keep p m → addIf b x (keep p (l ++ m)) ≡ addIf b x (keep p l) ++ keep p m
-    go true e = ap {B = List ℕ} (λ k. x ∷ k) e
-    go false e = e
 
 times-snoc : (v : ℕ) (l : List ℕ) (i : ℕ) → i < length l → times v (take (i + 1) l) ≡ times v (take i l) + length (keep (eqb v) (getD l i 0 ∷ []))
 unfolding times

@@ -23,3 +23,12 @@ pub fn each_byte_is(bytes: &[u8], value: u8) -> bool {
     }
     true
 }
+
+// Writes the value to each byte.
+pub fn fill(bytes: &mut [u8], value: u8) {
+    let mut i = 0;
+    while i < bytes.len() {
+        bytes[i] = value;
+        i += 1;
+    }
+}

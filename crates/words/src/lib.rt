@@ -1,4 +1,5 @@
-// What test programs share: the lines of standard input, the words of a line read, values printed, and what lent cells and bytes have.
+// What test programs share: the lines of standard input, the words of a line read, values printed, lent cells and bytes filled and looked at.
+pub mod diagram;
 pub mod lent;
 pub mod lines;
 pub mod print;

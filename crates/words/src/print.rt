@@ -77,6 +77,15 @@ pub fn bytes(bytes: &[u8]) {
     }
 }
 
+// Whether what was lent is as it was.
+pub fn kept(is: bool) {
+    if is {
+        text(b" kept");
+    } else {
+        text(b" altered");
+    }
+}
+
 // Said of a line that asks for more than the script can lend.
 pub fn too_long() {
     text(b"too long");

@@ -1,27 +1,25 @@
 -- What the writer tests and computes: its rows, the file's length, and the bit map.
 -- Assumes nothing.
 use mathlib.Core.Path.{_≡_, refl, sym, ap, _∙_}
-use mathlib.Core.Bool.{Bool, true, false, not, _&&_, _||_}
+use mathlib.Core.Bool.{Bool, true, false, not}
 use mathlib.Core.List.{List, [], _∷_, _++_, append-assoc}
 use Prim.Native.Nat.{ℕ, zero, suc, _+_, _*_, _≤_, _<_}
 use native.Mathlib.Omega.{arith}
 use borrow.Author.Tests.{ne-eqb, lt-ltb, le-ltb, ltb-false, not-true, not-false}
-use lib.Dec.{leb, ltb}
-use lib.ListN.{length, drop, length-append}
+use lib.ListN.{length, length-append}
 use lib.Seq.{length-take-le}
 use Rattle.rule.specs.Tests.{each}
-use Rattle.rule.specs.Order.{places, flags, fitOrder}
-use Rattle.rule.specs.Cells.{fitCells, recordsIn}
-use Rattle.rule.specs.Sound.{sound}
-use Rattle.rule.specs.Diagram.{allReached}
-use Rattle.rule.specs.Refusals.{refusal, orderPlaces, cells, diagramRecords, node, checkRows}
-use Rattle.rule.specs.Reply.{accepted, refused, reply, leaves}
-use Rattle.rule.specs.Files.{longestLabel, countSize, recordSize, two, printable, labelBytes, bitIf, ifSome, recordBytes, mapOf, fileOf, writeRows, Writes}
-use Rattle.theory.proofs.Refused.{row-passed, refused-more, passed-more, refused-reply, refused-kept}
+use Rattle.rule.specs.Order.{places, flags}
+use Rattle.rule.specs.Cells.{recordsIn}
+use Rattle.rule.specs.Refusals.{refusal, checkRows}
+use Rattle.rule.specs.Reply.{accepted, refused, reply}
+use Rattle.rule.specs.Files.{longestLabel, countSize, recordSize, two, printable, bitIf, ifSome, recordBytes, mapOf, fileOf, writeRows, Writes}
+use Rattle.theory.proofs.Refused.{passed}
 use Rattle.theory.proofs.Sound.{sound-shape}
-use Rattle.runs.specs.Run.{over, Puts}
-use Rattle.runs.proofs.Puts.{puts-more}
+use Rattle.runs.specs.Run.{Puts}
+use Rattle.runs.proofs.Puts.{puts-more, run-accepted}
 use Rattle.encoding.proofs.Puts.{length-records}
+use Rattle.checking.proofs.First.{check-taken, check-refuses, check-passes, none-refuses}
 use Rattle.writing.specs.Write.{sizeOf, ownRows, Writable}
 
 -- ---- what stands only where there is something
@@ -116,82 +114,43 @@ module _ (size : ℕ) (l bytes : List ℕ) where
       pub own-none : size ≤ length bytes → 0 ≡ refusal (ownRows size l bytes)
       own-none g = rw (le-ltb longestLabel (length l) h, sym e ∙ not-false a f, le-ltb (length bytes) size g)
 
-or-first : (a b : Bool) → (a || b) ≡ false → a ≡ false
-or-first true b e = e
-or-first false b e = refl
-
-refused-number : (x : ℕ) (v w : List ℕ) {k : ℕ} → refused k w ≡ reply x v → (k ≡ x) × (x ≡ 0 → ⊥)
-refused-number zero v w e = let z : _≡_ {A = ℕ} 0 1 = cc in absurd (omega arith)
-refused-number (suc x) v w e = (cc, λ z. omega arith)
-
-accepted-number : (x : ℕ) (v w : List ℕ) → accepted w ≡ reply x v → x ≡ 0
-accepted-number zero v w e = refl
-accepted-number (suc x) v w e = let z : _≡_ {A = ℕ} 0 1 = cc in absurd (omega arith)
-
 module _ (n : ℕ) (o c : List ℕ) (used root : ℕ) (l bytes : List ℕ) where
   size : ℕ
   size = length (fileOf n o c used root l)
 
-  pub check-refuses : {k : ℕ} (w : List ℕ) → refused k w ≡ reply (refusal (checkRows n o c used root)) (used ∷ [])
+  pub first-refuses : {k : ℕ} (w : List ℕ) → refused k w ≡ reply (refusal (checkRows n o c used root)) (used ∷ [])
       → k ≡ refusal (writeRows n o c used root l bytes)
   unfolding size
-  check-refuses w e =
-      let (p, d) = refused-number (refusal (checkRows n o c used root)) (used ∷ []) w e in
-      p ∙ refused-more (checkRows n o c used root) (ownRows size l bytes) d
+  first-refuses = check-refuses n o c used root (ownRows size l bytes)
 
-  few : refusal (checkRows n o c used root) ≡ 0 → n ≤ 10
-  few e = ltb-false _ _ (row-passed (ltb 10 n) 0 (orderPlaces n o ∷ cells c ∷ diagramRecords n o c used root ∷ node used root ∷ []) e .0)
-
-  pub check-passes : {k : ℕ} (w : List ℕ) → accepted w ≡ reply (refusal (checkRows n o c used root)) (used ∷ []) → length o ≡ places
+  pub own-passes : {k : ℕ} (w : List ℕ) → accepted w ≡ reply (refusal (checkRows n o c used root)) (used ∷ []) → length o ≡ places
       → k ≡ refusal (ownRows (sizeOf n (length l) used) l bytes) → k ≡ refusal (writeRows n o c used root l bytes)
   unfolding size
-  check-passes w e ten f =
-      let z = accepted-number (refusal (checkRows n o c used root)) (used ∷ []) w e in
-      let enough : n ≤ length o = omega (arith, few z) in
-      f
-      ∙ ap (λ (k : ℕ). refusal (ownRows k l bytes)) (sym (size-is n o c used root l enough))
-      ∙ passed-more (checkRows n o c used root) (ownRows size l bytes) refl z
+  own-passes w e ten f =
+      let (z, more) = check-passes n o c used root (ownRows size l bytes) w e in
+      let enough : n ≤ length o = omega (arith, check-taken n o c used root z .few) in
+      f ∙ ap (λ (k : ℕ). refusal (ownRows k l bytes)) (sym (size-is n o c used root l enough)) ∙ more
 
-  module _ {k : ℕ} (e : k ≡ refusal (writeRows n o c used root l bytes)) where
-    pub write-refused : (k ≡ 0 → ⊥) → Writes n o c used root l bytes (refused k (0 ∷ [])) bytes
-    write-refused d =
+  module _ {k : ℕ} (e : k ≡ refusal (writeRows n o c used root l bytes)) (z : k ≡ 0) where
+    passes : refusal (writeRows n o c used root l bytes) ≡ 0
+    passes = sym e ∙ z
+
+    pub writable : Writable n o c used root l bytes
+    unfolding size
+    writable =
+        let (taken, own) = none-refuses n o c used root (ownRows size l bytes) passes in
+        let (short, (_, (fits, _))) = passed (ownRows size l bytes) refl own in
+        let right = sound-shape n o c used (taken .is-sound) in
+        let few = taken .few in
         record {
-          answer = refused-reply k (length (fileOf n o c used root l) ∷ []) d ∙ ap (λ (j : ℕ). reply j (length (fileOf n o c used root l) ∷ [])) e;
-          bytes-are = refused-kept k (fileOf n o c used root l ++ drop (length (fileOf n o c used root l)) bytes) bytes d
-              ∙ ap (λ (j : ℕ). leaves j (fileOf n o c used root l ++ drop (length (fileOf n o c used root l)) bytes) bytes) e;
+          few = few;
+          held = right .fits;
+          flags = λ j h. omega (arith, right .flag j h);
+          short = ltb-false longestLabel (length l) short;
+          fits = ltb-false (length bytes) size fits;
         }
 
-    module _ (z : k ≡ 0) where
-      passes : refusal (writeRows n o c used root l bytes) ≡ 0
-      passes = sym e ∙ z
-
-      pub writable : Writable n o c used root l bytes
-      unfolding size
-      writable =
-          let own = ownRows size l bytes in
-          let (a, e₁) = row-passed (ltb 10 n) 0 (orderPlaces n o ∷ cells c ∷ diagramRecords n o c used root ∷ node used root ∷ own) passes in
-          let (b, e₂) = row-passed (not (fitOrder n o)) 3 (cells c ∷ diagramRecords n o c used root ∷ node used root ∷ own) e₁ in
-          let (d, e₃) = row-passed (not (fitCells c)) 4 (diagramRecords n o c used root ∷ node used root ∷ own) e₂ in
-          let (s, e₄) = row-passed (not (sound n o c used) || (leb root (used + 1) && not (allReached c used root))) 5 (node used root ∷ own) e₃ in
-          let (f, e₅) = row-passed (ltb (used + 1) root) 6 own e₄ in
-          let (g, e₆) = row-passed (ltb longestLabel (length l)) 12 (labelBytes l ∷ (ltb (length bytes) size, 10) ∷ []) e₅ in
-          let (p, e₇) = row-passed (not (each printable l)) 12 ((ltb (length bytes) size, 10) ∷ []) e₆ in
-          let (q, e₈) = row-passed (ltb (length bytes) size) 9 [] e₇ in
-          let right = sound-shape n o c used (not-false _ (or-first _ _ s)) in
-          let few = ltb-false 10 n a in
-          record {
-            few = few;
-            held = right .fits;
-            flags = λ j h. omega (arith, right .flag j h);
-            short = ltb-false longestLabel (length l) g;
-            fits = ltb-false (length bytes) size q;
-          }
-
-      pub write-accepted : {r : ℕ} {after : List ℕ} → Puts bytes 0 (fileOf n o c used root l) r after → Writes n o c used root l bytes (accepted (r ∷ [])) after
-      unfolding over
-      write-accepted p =
-          let size-is : 0 + length (fileOf n o c used root l) ≡ length (fileOf n o c used root l) = omega arith in
-          record {
-            answer = rw (passes, p .next-is, size-is);
-            bytes-are = p .after-is ∙ rw (passes, size-is);
-          }
+    pub write-accepted : {r : ℕ} {after : List ℕ} → Puts bytes 0 (fileOf n o c used root l) r after → Writes n o c used root l bytes (accepted (r ∷ [])) after
+    write-accepted {r} p =
+        let whole : r ≡ length (fileOf n o c used root l) = omega (arith, p .next-is) in
+        rw whole (run-accepted (length (fileOf n o c used root l) ∷ []) passes p)

@@ -2,15 +2,15 @@
 -- Assumes nothing.
 use borrow.Author.Needs.{needs}
 use denote.Ref.{now}
-use Rattle.writing.proofs.Written.{write-refused, write-accepted, writable}
+use Rattle.theory.proofs.Refused.{run-refused}
+use Rattle.writing.proofs.Written.{write-accepted, writable}
 use Rattle.writing.proofs.call.write.Statement.{statement}
 use Rattle.writing.proofs.call.write.Tie as tie
 
 returns : tie.Need-returns
 returns c =
     let test = c .before in
-    let a = test .before .before .before .before .before .args in
-    write-refused (a .n) (a .order .places) (now (a .cells)) (a .used) (a .root .number) (now (a .label)) (now (a .bytes)) (test .write-refusal .ensures) (c .if1 .taken)
+    run-refused _ _ _ (test .write-refusal .ensures) (c .if1 .taken)
 
 put-file-requires : tie.Need-put-file-requires
 put-file-requires c κs =

@@ -4,7 +4,7 @@ use mathlib.Core.List.{[], _∷_}
 use borrow.Author.Needs.{needs}
 use denote.Ref.{now}
 use Rattle.theory.proofs.Times.{ten}
-use Rattle.writing.proofs.Written.{check-refuses, check-passes}
+use Rattle.writing.proofs.Written.{first-refuses, own-passes}
 use Rattle.writing.proofs.call.write_refusal.Statement.{statement}
 use Rattle.writing.proofs.call.write_refusal.Tie as tie
 
@@ -12,7 +12,7 @@ returns : tie.Need-returns
 returns c =
     let check = c .before .before .before in
     let a = check .before .before .before .before .args in
-    check-refuses (a .n) (a .order .places) (now (a .cells)) (a .used) (a .root .number) (now (a .label)) (now (a .bytes)) (0 ∷ [])
+    first-refuses (a .n) (a .order .places) (now (a .cells)) (a .used) (a .root .number) (now (a .label)) (now (a .bytes)) (0 ∷ [])
     (rw (c .before .counted .given .1) at (check .check .ensures))
 
 returns-2 : tie.Need-returns-2
@@ -20,7 +20,7 @@ returns-2 c =
     let check = c .before .before .before in
     let start = check .before .before .before .before in
     let a = start .args in
-    check-passes (a .n) (a .order .places) (now (a .cells)) (a .used) (a .root .number) (now (a .label)) (now (a .bytes)) (c .before .enum-told .given .0 .0 ∷ [])
+    own-passes (a .n) (a .order .places) (now (a .cells)) (a .used) (a .root .number) (now (a .label)) (now (a .bytes)) (c .before .enum-told .given .0 .0 ∷ [])
     (rw (c .before .enum-told .given .1) at (check .check .ensures)) (ten (a .order .places) (start .good .1 .0 .1 .1 .0 .1 .0 .1)) (c .own-refusal .ensures)
 
 pub write-refusal-spec : {M : Type 1} → statement M
