@@ -2,7 +2,7 @@
 -- Assumes nothing.
 use mathlib.Core.Path.{_≡_, refl, sym, ap, ap₂, _∙_}
 use mathlib.Core.Bool.{true}
-use mathlib.Core.List.{List, [], _∷_, _++_, map, append-assoc}
+use mathlib.Core.List.{List, [], _∷_, _++_, map, append-assoc, flatMap}
 use Prim.Native.Nat.{ℕ, suc, _+_, _-_, _*_, _/_, _%_, _≤_}
 use native.Mathlib.Omega.{arith}
 use lib.ListN.{length, getD, length-append, length-replicate}
@@ -39,7 +39,7 @@ two-at p x q k e = rw (behind p (two x ++ q) 0 k (omega arith), behind p (two x 
 -- records that stand behind p, from the one of index a on
 pub records-at : (rs : List RecordValues) (p : List ℕ) (start a : ℕ) → length p ≡ start + a * recordSize
     → map (recordAt (p ++ recordBytes rs) start) (from a (length rs)) ≡ rs
-unfolding recordBytes from
+unfolding flatMap from
 records-at [] p start a e = refl
 records-at (r ∷ rs) p start a e =
     let at = start + a * recordSize in

@@ -1,7 +1,7 @@
 -- The lines of a listing, written one behind the other.
 -- Assumes nothing.
-use mathlib.Core.Path.{_≡_, refl, sym, ap, _∙_}
-use mathlib.Core.List.{List, [], _∷_, _++_, append-assoc, append-nil}
+use mathlib.Core.Path.{_≡_, refl}
+use mathlib.Core.List.{List, _++_, flatMap}
 use Prim.Native.Nat.{ℕ, zero, suc, _+_, _≤_, _<_}
 use native.Mathlib.Numerals.{add-one}
 use native.Mathlib.Omega.{arith}
@@ -10,21 +10,17 @@ use lib.Seq.{take-suc}
 use Rattle.rule.specs.Bits.{from, below}
 use Rattle.rule.specs.Text.{text, number, lineEnd}
 use Rattle.rule.specs.Listing.{numbers, orderLine, flagLine, flagLines}
+use Rattle.theory.proofs.Flat.{flat-behind, flat-next}
 use Rattle.runs.specs.Run.{Puts}
 use Rattle.runs.proofs.Puts.{puts-length, puts-then}
 
 -- ---- the order
 
-numbers-more : (l : List ℕ) (x : ℕ) → numbers (l ++ (x ∷ [])) ≡ numbers l ++ number x
-unfolding numbers
-numbers-more [] x = append-nil (number x)
-numbers-more (y ∷ l) x = ap (λ (m : List ℕ). number y ++ m) (numbers-more l x) ∙ sym (append-assoc (number y) (numbers l) (number x))
-
 pub puts-place : (l : List ℕ) (i : ℕ) {b d e : List ℕ} {at m r : ℕ} → i < length l → r ≤ length b → Puts b at (numbers (take i l)) m d
     → Puts d m (number (getD l i 0)) r e → Puts b at (numbers (take (i + 1) l)) r e
 puts-place l i h f p q =
     let e : numbers (take (i + 1) l) ≡ numbers (take i l) ++ number (getD l i 0) =
-    rw (add-one, take-suc l i 0 h) (numbers-more (take i l) (getD l i 0)) in
+    rw (add-one, take-suc l i 0 h) (flat-behind number (take i l) (getD l i 0)) in
     rw e (puts-then f p q)
 
 -- the word, the places and the line end
@@ -38,24 +34,10 @@ puts-order l {b} {d} h p q z =
 -- ---- the flags
 
 module _ (asked : ℕ → ℕ) where
-  lines-from : (a k : ℕ) → flagLines asked (from a (suc k)) ≡ flagLines asked (from a k) ++ flagLine (a + k) (asked (a + k))
-  unfolding flagLines from
-  lines-from a zero = let e : a + 0 ≡ a = omega arith in rw e (append-nil (flagLine a (asked a)))
-  lines-from a (suc k) =
-      let e : suc a + k ≡ a + suc k = omega arith in
-      ap (λ (l : List ℕ). flagLine a (asked a) ++ l) (rw e at (lines-from (suc a) k))
-      ∙ sym (append-assoc (flagLine a (asked a)) (flagLines asked (from (suc a) k)) (flagLine (a + suc k) (asked (a + suc k))))
-
-  lines-more : (k : ℕ) → flagLines asked (below (k + 1)) ≡ flagLines asked (below k) ++ flagLine k (asked k)
-  lines-more k =
-      let e : 0 + k ≡ k = omega arith in
-      rw add-one (lines-from 0 k ∙ ap (λ (x : ℕ). flagLines asked (below k) ++ flagLine x (asked x)) e)
-
   pub puts-flag : (k : ℕ) {b d e : List ℕ} {at m r : ℕ} → r ≤ length b → Puts b at (flagLines asked (below k)) m d → Puts d m (flagLine k (asked k)) r e
       → Puts b at (flagLines asked (below (k + 1))) r e
-  puts-flag k h p q = rw (lines-more k) (puts-then h p q)
+  puts-flag k h p q = rw (flat-next (λ v. flagLine v (asked v)) k) (puts-then h p q)
 
--- one line: the word, the flag, its nodes and the line end, one behind the other
 -- the word, the flag, its nodes and the line end
 pub puts-flag-line : (v k : ℕ) {b d e f g : List ℕ} {at m i j r : ℕ} → r ≤ length b → Puts b at (text "flag") m d → Puts d m (number v) i e
     → Puts e i (number k) j f → Puts f j lineEnd r g → Puts b at (flagLine v k) r g
@@ -67,7 +49,7 @@ puts-flag-line v k {b} {d} {e} h p q s z =
 
 -- the same lines where the counts are the same
 pub lines-same : (f g : ℕ → ℕ) (a k : ℕ) → ((v : ℕ) → v < a + k → f v ≡ g v) → flagLines f (from a k) ≡ flagLines g (from a k)
-unfolding flagLines from
+unfolding flatMap from
 lines-same f g a zero h = refl
 lines-same f g a (suc k) h =
     let e : f a ≡ g a = h a (omega arith) in

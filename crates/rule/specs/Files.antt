@@ -3,7 +3,7 @@
 -- Assumes nothing.
 use mathlib.Core.Path.{_≡_}
 use mathlib.Core.Bool.{Bool, cond, not, _&&_, _||_}
-use mathlib.Core.List.{List, [], _∷_, _++_, map}
+use mathlib.Core.List.{List, [], _∷_, _++_, map, flatMap}
 use Prim.Native.Nat.{ℕ, zero, suc, _+_, _*_, _/_, _%_, _^_}
 use lib.Dec.{eqb, leb, ltb}
 use lib.ListN.{length, getD, take, drop, replicate}
@@ -257,9 +257,8 @@ Label file c s = IsPart file (labelOf (reading c (now file))) s
 -- ---- the writer
 
 -- the bytes of records one behind the other
-unfoldable pub recordBytes : List RecordValues → List ℕ
-recordBytes [] = []
-recordBytes (r ∷ rs) = inBytes r ++ recordBytes rs
+abbrev pub recordBytes : List RecordValues → List ℕ
+recordBytes rs = flatMap inBytes rs
 
 abbrev pub ifSome : ℕ → List ℕ → List ℕ
 ifSome zero field = []

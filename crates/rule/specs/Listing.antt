@@ -1,7 +1,7 @@
 -- The listing program's lines (document 01, "The listing program"), in bytes.
 -- Assumes nothing.
 use mathlib.Core.Bool.{Bool, true, false, not, _||_}
-use mathlib.Core.List.{List, [], _∷_, _++_, map}
+use mathlib.Core.List.{List, [], _∷_, _++_, map, flatMap}
 use Prim.Native.Nat.{ℕ, zero, suc, _-_, _^_}
 use Prim.Native.String.{String}
 use lib.Dec.{eqb, ltb}
@@ -52,9 +52,8 @@ listingRows line = lineRows line ++ (shortWorkspace (flagsOf line) ∷ [])
 -- ---- what is printed
 
 -- numbers, each behind a blank
-unfoldable pub numbers : List ℕ → List ℕ
-numbers [] = []
-numbers (x ∷ xs) = number x ++ numbers xs
+abbrev pub numbers : List ℕ → List ℕ
+numbers xs = flatMap number xs
 
 -- a line of a word and a number
 abbrev pub wordLine : String → ℕ → List ℕ
@@ -65,9 +64,8 @@ abbrev pub flagLine : ℕ → ℕ → List ℕ
 flagLine v nodes = text "flag" ++ (number v ++ (number nodes ++ lineEnd))
 
 -- the lines of these flags, with the nodes that `asked` gives each
-unfoldable pub flagLines : (ℕ → ℕ) → List ℕ → List ℕ
-flagLines asked [] = []
-flagLines asked (v ∷ vs) = flagLine v (asked v) ++ flagLines asked vs
+abbrev pub flagLines : (ℕ → ℕ) → List ℕ → List ℕ
+flagLines asked vs = flatMap (λ v. flagLine v (asked v)) vs
 
 -- "With no flags the `order` line is the bare word."
 abbrev pub orderLine : List ℕ → List ℕ

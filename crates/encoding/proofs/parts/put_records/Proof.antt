@@ -1,6 +1,7 @@
 -- `encoding::parts::put_records` meets its contract: the first k records are written.
 -- Assumes nothing.
 use mathlib.Core.Path.{_≡_, refl}
+use mathlib.Core.List.{flatMap}
 use Prim.Native.Nat.{_+_, _-_, _≤_}
 use native.Mathlib.Omega.{arith}
 use borrow.Author.Needs.{needs}
@@ -22,7 +23,7 @@ abbrev μ-loop : tie.MeasureT-loop
 μ-loop bytes₀ at cells used next₀ k₀ bytes next k = used - k
 
 loop-holds : tie.Need-loop-holds Inv-loop μ-loop
-unfolding from recordBytes
+unfolding from flatMap
 loop-holds c = (omega arith, refl, puts-none _ _)
 
 put-record-requires : tie.Need-put-record-requires Inv-loop μ-loop

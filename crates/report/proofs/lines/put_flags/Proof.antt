@@ -1,6 +1,7 @@
 -- `report::lines::put_flags` meets its contract: the lines of the flags passed are written.
 -- Assumes nothing.
 use mathlib.Core.Path.{_≡_, refl}
+use mathlib.Core.List.{flatMap}
 use Prim.Native.Nat.{_+_, _*_, _-_, _≤_}
 use native.Mathlib.Omega.{arith}
 use borrow.Author.Needs.{needs}
@@ -23,7 +24,7 @@ abbrev μ-loop : tie.MeasureT-loop
 μ-loop out₀ at n cells used next₀ v₀ out next v = n - v
 
 loop-holds : tie.Need-loop-holds Inv-loop μ-loop
-unfolding flagLines from
+unfolding flatMap from
 loop-holds c = (omega arith, refl, puts-none _ _, omega arith)
 
 put-flag-requires : tie.Need-put-flag-requires Inv-loop μ-loop

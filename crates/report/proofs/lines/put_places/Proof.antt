@@ -1,6 +1,7 @@
 -- `report::lines::put_places` meets its contract: the places passed are written.
 -- Assumes nothing.
 use mathlib.Core.Path.{_≡_, refl}
+use mathlib.Core.List.{flatMap}
 use Prim.Native.Nat.{_+_, _*_, _-_, _≤_}
 use native.Mathlib.Omega.{arith}
 use borrow.Author.Needs.{needs}
@@ -21,7 +22,7 @@ abbrev μ-loop : tie.MeasureT-loop
 μ-loop out₀ at n places next₀ i₀ out next i = n - i
 
 loop-holds : tie.Need-loop-holds Inv-loop μ-loop
-unfolding numbers
+unfolding flatMap
 loop-holds c =
     let start = c .before .before in
     (omega arith, refl, puts-none _ _, omega arith, ten (start .args .order .places) (start .good .1 .1 .1 .0 .1 .1 .0 .1 .0 .1))
