@@ -15,7 +15,7 @@ enum { STORES = 256, TABLES = 200 };
 
 // What the calls are given: the first `kinds` of the stores, of which `length` cells are lent, and diagrams of tables.
 static struct store stores[STORES];
-static uint16_t nodes[STORES], rows[STORES];
+static uint16_t nodes[STORES], passes[STORES], rows[STORES];
 static int kinds;
 static size_t length;
 static uint8_t tables[TABLES][ROWS];
@@ -33,6 +33,15 @@ static uint8_t bytes[ROWS];
 WALK(new_walk, engine_walk)
 WALK(old_walk, old_engine_walk)
 WALK(c_walk, plain_walk)
+
+#define WALK_UNDER(name, call)                                                                                            \
+    static uint64_t name(int input)                                                                                       \
+    {                                                                                                                     \
+        int i = input % kinds;                                                                                            \
+        return call(FLAGS, rising_order, stores[i].cells, length, stores[i].used, nodes[i], passes[i], rows[i]);          \
+    }
+WALK_UNDER(new_walk_under, engine_walk_under)
+WALK_UNDER(c_walk_under, plain_walk_under)
 
 // The same refusal and the same first value: the older walk hands back no more.
 static int alike(uint64_t one, uint64_t other) { return refusal(one) == refusal(other) && first_value(one) == first_value(other); }
@@ -91,6 +100,11 @@ static void make_stores(unsigned records, int whole)
         nodes[i] = records + 1 - random_below(records / 4);
         rows[i] = random_below(ROWS);
         must(refusal(new_walk(i)) == 0, "a store of random rules is refused");
+        // a pass rule that allows the row, with the walk's answer as without it
+        do
+            passes[i] = random_below(records + 2);
+        while (refusal(new_walk_under(i)) == 14);
+        must(new_walk_under(i) == new_walk(i), "a pass rule changes an answer");
     }
 }
 
@@ -151,7 +165,7 @@ static void make_files(void)
     }
 }
 
-// All three walks answer alike, of stores with one cell changed; this one's and that in plain C with the same flags asked.
+// All three walks answer alike, of stores with one cell changed; this one's and that in plain C with the same flags asked, and alike under pass rules.
 static void compare(void)
 {
     static const unsigned sizes[] = {4, 64, 256, 1024};
@@ -165,6 +179,12 @@ static void compare(void)
                 *cell = t % 2 ? random_below(stores[i].used + 2) : random_below(FLAGS + 1);
                 uint64_t answer = new_walk(i);
                 must(alike(answer, old_walk(i)) && answer == c_walk(i), "the walks differ");
+                uint16_t pass = passes[i], row = rows[i];
+                passes[i] = random_below(stores[i].used + 3);
+                rows[i] = random_below(16) ? row : ROWS;
+                must(new_walk_under(i) == c_walk_under(i), "the walks under a pass rule differ");
+                passes[i] = pass;
+                rows[i] = row;
                 *cell = kept;
                 tried++;
                 refused += refusal(answer) != 0;
@@ -179,6 +199,7 @@ static const struct way tabulates[2] = {{"old", old_tabulate, 0}, {"new", new_ta
 static const struct way builds[2] = {{"old", old_build, 0}, {"new", new_build, 0}};
 static const struct way reads[2] = {{"in sequence", read_settled, 0}, {"as drawn", read_drawn, 0}};
 static const struct way plain_walks[2] = {{"engine", new_walk, 0}, {"plain C", c_walk, 0}};
+static const struct way passed_walks[2] = {{"engine", new_walk_under, 0}, {"plain C", c_walk_under, 0}};
 static const struct way plain_tabulates[2] = {{"engine", new_tabulate, 0}, {"plain C", c_tabulate, 0}};
 
 // Walks of stores with 64, 256 and 1,024 records, in turn or always the first; and how the time grows.
@@ -229,6 +250,10 @@ int main(void)
     measure_walks(plain_walks, 1, 200);
     measure_walks(plain_walks, 0, 200);
     measure_diagrams("tabulate a diagram", plain_tabulates);
+
+    printf("\nunder a pass rule\n");
+    print_head(passed_walks, 2);
+    measure_walks(passed_walks, 1, 200);
 
     print_head(reads, 2);
     measure_diagrams("read of a file", reads);

@@ -9,6 +9,9 @@ uint64_t engine_build(uint8_t n, const uint8_t *table, size_t rows, const uint8_
 uint64_t engine_check(uint8_t n, const uint8_t *order, const uint16_t *cells, size_t length, uint16_t used, uint16_t root);
 // Walk: the answer, the set of the flags asked, and their number.
 uint64_t engine_walk(uint8_t n, const uint8_t *order, const uint16_t *cells, size_t length, uint16_t used, uint16_t node, uint16_t row);
+// The same under a pass rule's node.
+uint64_t engine_walk_under(uint8_t n, const uint8_t *order, const uint16_t *cells, size_t length, uint16_t used, uint16_t node, uint16_t pass,
+                           uint16_t row);
 uint64_t engine_tabulate(uint8_t n, const uint8_t *order, const uint16_t *cells, size_t length, uint16_t used, uint16_t node, uint8_t *bytes,
                          size_t rows);
 

@@ -87,16 +87,10 @@ static unsigned unfit(unsigned n, const uint8_t *order, const uint16_t *cells, s
     return 0;
 }
 
-uint64_t plain_walk(uint8_t n, const uint8_t *order, const uint16_t *cells, size_t length, uint16_t used, uint16_t node, uint16_t row)
+// The walk from node m: its answer, the set of the flags asked, and their number.
+static uint64_t descend(const uint16_t *cells, unsigned m, unsigned row)
 {
-    unsigned refused = unfit(n, order, cells, length, used);
-    if (refused != 0)
-        return refused;
-    if (node > used + 1)
-        return 7;
-    if (row >= 1u << n)
-        return 9;
-    unsigned m = node, asked = 0, count = 0;
+    unsigned asked = 0, count = 0;
     while (m >= 2) {
         const uint16_t *record = cells + WIDTH * (m - 2);
         m = row >> record[0] & 1 ? record[2] : record[1];
@@ -104,6 +98,26 @@ uint64_t plain_walk(uint8_t n, const uint8_t *order, const uint16_t *cells, size
         count++;
     }
     return (uint64_t)m << 8 | (uint64_t)asked << 24 | (uint64_t)count << 40;
+}
+
+uint64_t plain_walk(uint8_t n, const uint8_t *order, const uint16_t *cells, size_t length, uint16_t used, uint16_t node, uint16_t row)
+{
+    return plain_walk_under(n, order, cells, length, used, node, 1, row);
+}
+
+uint64_t plain_walk_under(uint8_t n, const uint8_t *order, const uint16_t *cells, size_t length, uint16_t used, uint16_t node, uint16_t pass,
+                          uint16_t row)
+{
+    unsigned refused = unfit(n, order, cells, length, used);
+    if (refused != 0)
+        return refused;
+    if (node > used + 1 || pass > used + 1)
+        return 7;
+    if (row >= 1u << n)
+        return 9;
+    if ((descend(cells, pass, row) >> 8 & 1) == 0)
+        return 14;
+    return descend(cells, node, row);
 }
 
 // The answers of node m in the rows that have the row's values of the flags before level `at`, those from it on being 0 in the row.

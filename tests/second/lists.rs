@@ -1,8 +1,8 @@
 //! The lists of store calls that are written as vectors: each refusal at its edge, stores that are
-//! filled to the last record, and random lists.
+//! filled to the last record, all rows of rules under pass rules, and random lists.
 
 use crate::play::play;
-use crate::scribe::{kinds, Scribe, CALLS};
+use crate::scribe::{kinds, Kind, Scribe, CALLS};
 use crate::{Dice, CELLS, WIDTH};
 use std::collections::{BTreeMap, BTreeSet};
 
@@ -19,6 +19,7 @@ const TESTED: &[(char, &[usize])] = &[
     ('x', &[1, 4, 5, 6, 7, 9, 10]),
     ('t', &[1, 2, 4, 5, 6, 7]),
     ('w', &[1, 4, 5, 6, 7, 9]),
+    ('g', &[1, 4, 5, 6, 7, 9, 14]),
 ];
 
 /// States given to open: n, the order and the used number, at the edges of what is fit.
@@ -107,12 +108,29 @@ const LENGTHS: &str =
     "o 2 10 0;f 0;t @1 4;o 3 012 7;f 2;t @4 8;t @4 4;o 1 0 0;t 1 2;t 0 8;o 0 - 1;t 1 1;o 4 3210 0;f 3;t @13 16";
 
 /// Ten flags, joined from the one asked last upwards by AND and OR in turn: for row 316 a walk asks
-/// all of them, for a row that differs from it in one flag those up to that flag. The last open
-/// leaves no tables to be told.
+/// all of them, for a row that differs from it in one flag those up to that flag. Then a rule that
+/// asks one flag has a pass rule that asks many, and the other way round. The last open leaves no
+/// tables to be told.
 const WALKED: &str = "o 10 3140592687 0;f 7;f 8;j 1 @2 @1;f 6;j 7 @4 @3;f 2;j 1 @6 @5;f 9;\
     j 7 @8 @7;f 5;j 1 @10 @9;f 0;j 7 @12 @11;f 4;j 1 @14 @13;f 1;j 7 @16 @15;f 3;j 1 @18 @17;\
     w @19 308;w @19 318;w @19 300;w @19 317;w @19 284;w @19 828;w @19 312;w @19 380;w @19 60;\
-    w @19 444;w @19 316;o 0 - 0";
+    w @19 444;w @19 316;g @19 @17 308;g @19 @17 436;g @17 @19 444;g @1 @19 444;g @19 @18 316;\
+    g @19 @1 316;g @19 @19 444;g @19 @19 316;o 0 - 0";
+
+/// Stores by n and their order, calls that make rules in them, open being call 0, and pairs of a
+/// rule and its pass rule. The first pass rule says that flags 0 and 1 are never both set; `@6` in
+/// the second store is a node within other rules.
+const PASSED: &[(usize, &str, &str, &str)] = &[
+    (
+        4,
+        "2013",
+        "f 0;f 1;j 14 @1 @2;f 2;f 3;j 1 @1 @4;c @5 @6 @2",
+        "@7 @3;@7 @7;@3 @7;@7 @6;@7 0;@7 1",
+    ),
+    (3, "012", "f 0;f 1;j 6 @1 @2;f 2;j 6 @3 @4;x @3 0 1", "@5 @6;@6 @5;@3 @6;@6 @6"),
+    (3, "201", "f 0;f 1;f 2;j 7 @2 @3;j 1 @2 @3;c @1 @4 @5", "@6 @4;@4 @6;@6 @5;@5 @3"),
+    (1, "0", "f 0;j 12 @1 0", "@1 @1;@1 @2;@2 @1;@2 0;0 @2;1 @1"),
+];
 
 /// Open at its edges, with a call behind each that tells whether the state is fit.
 fn opens(dice: &mut Dice, cells: usize, states: &[&str]) -> Vec<String> {
@@ -124,8 +142,8 @@ fn opens(dice: &mut Dice, cells: usize, states: &[&str]) -> Vec<String> {
     list.end()
 }
 
-/// All calls while the last open is not an accepted one, fit, unfit throughout, and tabulate half
-/// so; then what a fit open alters.
+/// All calls while the last open is not an accepted one, fit and unfit throughout; tabulate and the
+/// walk under a pass rule also with one unfit argument; then what a fit open alters.
 fn unopened(dice: &mut Dice, cells: usize, states: &[&str]) -> Vec<String> {
     let mut list = Scribe::new(dice, cells);
     for state in states {
@@ -138,24 +156,44 @@ fn unopened(dice: &mut Dice, cells: usize, states: &[&str]) -> Vec<String> {
         list.say_fit(&letter.to_string());
         list.say_unfit(letter, |_| true);
     }
-    (0..2).for_each(|place| list.say_unfit('t', |other| other == place));
+    for letter in ['t', 'g'] {
+        let places = 0..kinds(letter).len();
+        places.for_each(|place| list.say_unfit(letter, |other| other == place));
+    }
     list.say_open("2 10 3");
-    list.say_fit("fftw");
+    list.say_fit("fftwg");
     list.end()
 }
 
-/// Each argument of these calls at each of its edges, the others fit; then all unfit at once.
-fn at_edges(dice: &mut Dice, n: usize, letters: &str) -> Vec<String> {
+/// Opens, and makes every third flag.
+fn with_flags(dice: &mut Dice, n: usize) -> Scribe<'_> {
     let mut list = Scribe::new(dice, CELLS);
     let state = list.dice.fit_state(n);
     list.say_open(&state);
     (0..n).step_by(3).for_each(|i| drop(list.say(&format!("f {i}"))));
+    list
+}
+
+/// Each argument of these calls at each of its edges, the others fit; then all unfit at once.
+fn at_edges(dice: &mut Dice, n: usize, letters: &str) -> Vec<String> {
+    let mut list = with_flags(dice, n);
     for letter in letters.chars() {
         for (place, &kind) in kinds(letter).iter().enumerate() {
             let count = list.edges(kind).concat().len();
             (0..count).for_each(|which| list.say_edge(letter, place, which));
         }
         list.say_unfit(letter, |_| true);
+    }
+    list.end()
+}
+
+/// Walks of a rule at one of its edges, under pass rules at each of theirs and under "yes", for a
+/// row at each of its own: so 7 is met ahead of 9, and 9 under pass rules that forbid all rows.
+fn at_all_edges(dice: &mut Dice, n: usize, which: usize) -> Vec<String> {
+    let mut list = with_flags(dice, n);
+    let [nodes, rows] = [Kind::Node, Kind::Row].map(|kind| list.edges(kind).concat());
+    for pass in nodes.iter().chain(&[1]) {
+        rows.iter().for_each(|row| drop(list.say(&format!("g {} {pass} {row}", nodes[which]))));
     }
     list.end()
 }
@@ -188,10 +226,37 @@ fn random_steps(dice: &mut Dice, n: usize) -> Vec<String> {
     list.lines[1..=steps].to_vec()
 }
 
+/// A list that begins with these calls, in so many cells.
+fn played(
+    dice: &mut Dice,
+    cells: usize,
+    calls: impl IntoIterator<Item = impl AsRef<str>>,
+) -> Scribe<'_> {
+    let mut list = Scribe::new(dice, cells);
+    calls.into_iter().for_each(|line| drop(list.say(line.as_ref())));
+    list
+}
+
 /// These calls, in cells for so many records.
 fn said(dice: &mut Dice, room: usize, calls: &str) -> Vec<String> {
-    let mut list = Scribe::new(dice, WIDTH * room);
-    calls.split(';').for_each(|line| drop(list.say(line)));
+    played(dice, WIDTH * room, calls.split(';')).end()
+}
+
+/// All rows of rules under their pass rules, thirty-two walks to a list.
+fn all_rows(dice: &mut Dice, n: usize, made: &str, pairs: &str) -> Vec<Vec<String>> {
+    let rows = |pair| (0..1 << n).map(move |row: usize| format!("g {pair} {row}"));
+    let walks: Vec<String> = pairs.split(';').flat_map(rows).collect();
+    let calls = walks.chunks(32).map(|walks| format!("{made};{}", walks.join(";")));
+    calls.map(|calls| said(dice, 20, &calls)).collect()
+}
+
+/// Random rules, and then walks under pass rules.
+fn random_walks(dice: &mut Dice, n: usize) -> Vec<String> {
+    let steps = random_steps(dice, n);
+    let mut list = played(dice, CELLS, steps);
+    while list.calls() < 40 {
+        list.say_any("g");
+    }
     list.end()
 }
 
@@ -207,7 +272,7 @@ fn ask_full(list: &mut Scribe) {
     for wanted in [false, true, true] {
         list.say_fix(wanted);
     }
-    list.say_fit("fjtw");
+    list.say_fit("fjtwg");
     let letter = list.dice.pick(&['f', 'j', 'c', 'x']);
     list.say_unfit(letter, |place| place == 0);
 }
@@ -222,9 +287,7 @@ fn filled(dice: &mut Dice, steps: &[String], room: usize) -> (String, Vec<String
 
 /// The steps in cells that are exactly enough, and in cells for one record fewer.
 fn pair(dice: &mut Dice, steps: &[String]) -> [Vec<String>; 2] {
-    let mut list = Scribe::new(dice, CELLS);
-    steps.iter().for_each(|step| drop(list.say(step)));
-    let needed = list.used();
+    let needed = played(dice, CELLS, steps).used();
     let (enough, full) = filled(dice, steps, needed);
     assert!(enough.starts_with("rule ") && enough.ends_with(&format!(" used {needed}")));
     let (short, refused) = filled(dice, steps, needed - 1);
@@ -232,8 +295,20 @@ fn pair(dice: &mut Dice, steps: &[String]) -> [Vec<String>; 2] {
     [full, refused]
 }
 
+/// Walks under the rule that was handed back last, for the last row that it allows and the last
+/// that it forbids.
+fn walk_under_last(list: &mut Scribe, rule: &str) {
+    let pass = *list.session.rules().last().expect("a rule");
+    let allowed = list.session.rule_of_call(pass);
+    for is_allowed in [true, false] {
+        let mut rows = (0..1 << list.n()).rev();
+        let row: usize = rows.find(|row| allowed.contains(row) == is_allowed).expect("such a row");
+        list.say(&format!("g {rule} @{pass} {row}"));
+    }
+}
+
 /// Ten flags in all the cells that may be lent, filled as far as the calls reach. The opposites of
-/// flags, a record each, come last.
+/// flags, a record each, come last: one of them is a pass rule whose node is above 255.
 fn large(dice: &mut Dice) -> Vec<String> {
     let mut list = Scribe::new(dice, CELLS);
     let (state, flags) = (list.dice.fit_state(10), list.dice.order(10));
@@ -245,8 +320,9 @@ fn large(dice: &mut Dice) -> Vec<String> {
     let opposites = (1..=10).map(|call| format!("j 12 @{call} 0"));
     let lacking: Vec<String> = opposites.filter(|line| list.session.needed(line) > 0).collect();
     lacking.iter().take(3).for_each(|line| drop(list.say(line)));
+    walk_under_last(&mut list, "@11");
     while list.calls() < 40 {
-        list.say_any("jcxw");
+        list.say_any("jcxwg");
     }
     list.end()
 }
@@ -270,7 +346,7 @@ fn step(list: &mut Scribe) {
         let wanted = !list.dice.one_in(4);
         list.say_fix(wanted);
     } else {
-        list.say_any("kfjjjjjcccxtww");
+        list.say_any("kfjjjjjcccxtwwggg");
     }
 }
 
@@ -286,7 +362,7 @@ fn random(dice: &mut Dice) -> Vec<String> {
     let calls = if odd > 0 { 12 } else { 9 + dice.below(30).min(dice.below(30)) };
     let mut list = Scribe::new(dice, WIDTH * room + odd);
     if list.dice.one_in(8) {
-        (0..2).for_each(|_| list.say_any("kfjcxtw"));
+        (0..2).for_each(|_| list.say_any("kfjcxtwg"));
     }
     begin(&mut list, n);
     while list.calls() < calls {
@@ -306,6 +382,12 @@ fn lists(dice: &mut Dice) -> Vec<Vec<String>> {
     for n in [0, 1, 2, 3, 7, 10] {
         lists.extend(["kfj", "ct", "xw"].map(|letters| at_edges(dice, n, letters)));
     }
+    for n in [0, 1, 3, 10] {
+        lists.extend((0..4).map(|which| at_all_edges(dice, n, which)));
+    }
+    for (n, order, calls, pairs) in PASSED {
+        lists.extend(all_rows(dice, *n, &format!("o {n} {order} 0;{calls}"), pairs));
+    }
     for (state, calls) in MADE {
         let open = format!("o {state}");
         let steps = [&open[..]].into_iter().chain(calls.split(';'));
@@ -315,8 +397,9 @@ fn lists(dice: &mut Dice) -> Vec<Vec<String>> {
         let steps = random_steps(dice, n);
         lists.extend(pair(dice, &steps));
     }
+    lists.extend((0..16).map(|i| random_walks(dice, 2 + i % 7)));
     lists.extend([0x0B5E_55ED_CAFE_0002, 0x0B5E_55ED_CAFE_0003].map(|seed| large(&mut Dice(seed))));
-    lists.extend((0..200).map(|_| random(dice)));
+    lists.extend((0..220).map(|_| random(dice)));
     lists.push(said(dice, 10, LENGTHS));
     lists.push(said(dice, 19, WALKED));
     lists

@@ -9,6 +9,7 @@
 //!     x A I V           fix flag I to V in A
 //!     t A BYTES         tabulate into so many lent bytes, 9 in each
 //!     w A ROW           walk
+//!     g A PASS ROW      walk under a pass rule
 //!     end               ends the list
 //!
 //! Each call is given the cells and state as the last one left them, open its own state. An order
@@ -36,7 +37,7 @@
 
 use crate::book::Book;
 use crate::store::{make, row_count, Ask, Rule, State, Store};
-use crate::{collapse, digits, flags_asked, set_and_number};
+use crate::{collapse, digits, flags_asked, refuse, set_and_number};
 
 /// A node as the paper fixes it: by its number, or by the call that handed it back first.
 #[derive(Clone, Copy, Debug, Eq, Hash, PartialEq)]
@@ -78,6 +79,7 @@ fn read(line: &str) -> (Ask, Vec<Given>) {
         ["x", a, i, value] => (Ask::Fix(number(i), number(value)), vec![given(a)]),
         ["t", a, bytes] => (Ask::Tabulate(number(bytes)), vec![given(a)]),
         ["w", a, row] => (Ask::Walk(number(row)), vec![given(a)]),
+        ["g", a, pass, row] => (Ask::Walk(number(row)), vec![given(a), given(pass)]),
         _ => panic!("no call: {line}"),
     }
 }
@@ -203,14 +205,18 @@ impl Session {
         }
     }
 
-    /// The flags by the table; up to six flags the collapse asserts them of its own walks too.
-    fn walk(&self, name: Name, row: usize) -> String {
-        let (table, State { n, order, .. }) = (self.table(name), &self.store.state);
+    /// A row for which the pass rule's table, the book's too, says no is refused. "The flags a walk
+    /// reports are the rule's own" (document 02, request 5): by its table; up to six flags the
+    /// collapse asserts them of its own walks too.
+    fn walk(&self, rule: Name, pass: Option<&Name>, row: usize) -> Result<String, usize> {
+        let forbids = |pass: &Name| self.table(*pass)[row] == 0;
+        refuse(&[(14, pass.map_or(false, forbids))])?;
+        let (table, State { n, order, .. }) = (self.table(rule), &self.store.state);
         if *n <= 6 {
             collapse(&table, &order[..*n]);
         }
         let (set, number) = set_and_number(&flags_asked(&table, &order[..*n], row));
-        format!("answer {} asked {set} number {number}", table[row])
+        Ok(format!("answer {} asked {set} number {number}", table[row]))
     }
 
     fn answer(&mut self, ask: &Ask, nodes: &[Given]) -> Result<String, usize> {
@@ -222,7 +228,7 @@ impl Session {
         let arguments: Vec<Name> = nodes.iter().map(|&node| self.name_of(node)).collect();
         match *ask {
             Ask::Tabulate(_) => Ok(format!("table {}", digits(&self.table(arguments[0])))),
-            Ask::Walk(row) => Ok(self.walk(arguments[0], row)),
+            Ask::Walk(row) => self.walk(arguments[0], arguments.get(1), row),
             _ => self.hand_back(ask, &arguments),
         }
     }

@@ -26,6 +26,7 @@ pub const CALLS: &[(char, &[Kind])] = &[
     ('x', &[Node, Flag, Value]),
     ('t', &[Node, Bytes]),
     ('w', &[Node, Row]),
+    ('g', &[Node, Node, Row]),
 ];
 
 pub fn kinds(letter: char) -> &'static [Kind] {

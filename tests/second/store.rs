@@ -16,7 +16,8 @@ pub struct State {
     pub used: usize,
 }
 
-/// What a call asks, but for the nodes among its arguments.
+/// What a call asks, but for the nodes among its arguments. A walk has one, its rule, or behind it
+/// a pass rule too.
 #[derive(Clone, Debug)]
 pub enum Ask {
     Open(State),

@@ -1,5 +1,6 @@
-//! The store's own checks: lists worked out by hand, the operators by their digits, and the records
-//! that a rule needs beside the nodes that the collapse leaves.
+//! The store's own checks: lists worked out by hand, the operators by their digits, walks under
+//! pass rules beside those without, and the records that a rule needs beside the nodes that the
+//! collapse leaves.
 
 use crate::play::play;
 use crate::store::{depends, records_of, rule_of, Rule};
@@ -70,12 +71,43 @@ pub const LISTS: &[(&str, &str)] = &[
          answer 0 asked 2 number 1 used 7;end used 7;node 2 01010101;node 3 00110011;\
          node 4 00001111;node 8 00110101;node inner 00110000;sum 3637",
     ),
+    // "heel loaded and mid-swing were never both set": flags 0 and 1. The rule is x0 where x3 is 1,
+    // else x2. Its flags are told also where the pass rule asks others. Then 7 ahead of 9 and 14,
+    // and 9 ahead of 14.
+    (
+        "list 10r;o 4 0123 0;f 0;f 1;j 14 @1 @2;f 2;f 3;c @5 @1 @4;g @6 @3 3;g @6 @3 15;g @6 @3 1;\
+         g @6 @3 13;g 11 5 2;g 11 5 14;g @1 @6 13;g @1 @6 14;g 11 11 13;g 12 13 16;g 11 12 16;\
+         g 12 0 0;g 1 0 16;g 1 0 15;g 0 1 15;end",
+        "open accepted used 0;rule 2 used 1;rule 3 used 2;rule 5 used 4;rule 6 used 5;\
+         rule 7 used 6;rule 11 used 10;refused 14 used 10;refused 14 used 10;\
+         answer 0 asked 13 number 3 used 10;answer 1 asked 5 number 2 used 10;\
+         answer 0 asked 5 number 2 used 10;answer 0 asked 13 number 3 used 10;\
+         answer 1 asked 1 number 1 used 10;refused 14 used 10;answer 1 asked 5 number 2 used 10;\
+         refused 7 used 10;refused 7 used 10;refused 7 used 10;refused 9 used 10;\
+         refused 14 used 10;answer 0 asked 0 number 0 used 10;end used 10;node 2 0101010101010101;\
+         node 3 0011001100110011;node 5 1110111011101110;node 6 0000111100001111;\
+         node 7 0000000011111111;node 11 0000111101010101;sum 21358",
+    ),
+    // The opposite of x1, within x0 XOR x1, as pass rule and under one.
+    (
+        "list 4r;g 1 0 0;o 2 01 0;f 0;f 1;j 6 @2 @3;x @4 0 1;g @4 @5 1;g @4 @5 3;g @5 @4 2;\
+         g @5 @4 3;end",
+        "refused 6 used 0;open accepted used 0;rule 2 used 1;rule 3 used 2;rule 5 used 4;\
+         rule inner used 4;answer 1 asked 3 number 2 used 4;refused 14 used 4;\
+         answer 0 asked 2 number 1 used 4;refused 14 used 4;end used 4;node 2 0101;node 3 0011;\
+         node 5 0110;node inner 1100;sum 459",
+    ),
     // No cells hold no records, and are sound before any open.
     (
         "list 0;k 1;j 6 @0 1;f 0;t 1 1;w 1 0;w 2 0;w 1 1;o 1 - 5;f 0;k 0;end",
         "rule 1 used 0;rule 0 used 0;refused 9 used 0;table 1 used 0;\
          answer 1 asked 0 number 0 used 0;refused 7 used 0;refused 9 used 0;open accepted used 0;\
          refused 10 used 0;rule 0 used 0;end used 0;node 0 00;sum 0",
+    ),
+    (
+        "list 0;g 1 1 0;g 1 0 0;g 1 0 1;g 1 2 1;o 1 1 3;g 1 0 0;o 11 01 4;g 9 9 9;end",
+        "answer 1 asked 0 number 0 used 0;refused 14 used 0;refused 9 used 0;refused 7 used 0;\
+         open refused 4 used 3;refused 4 used 3;open refused 1 used 4;refused 1 used 4;end used 4",
     ),
     // Cells as lent are not; a refused open leaves the state that it was given.
     (
@@ -100,6 +132,24 @@ fn by_digits(code: usize) -> bool {
     output.contains(&format!("\ntable {code:04b} used "))
 }
 
+/// Walks under the rule that a code makes of flag 1 and flag 0: a row is refused where the code's
+/// digit is 0, under 0 each row, and is answered as without a pass rule where it is 1, under 15
+/// each row.
+fn by_pass_rule(code: usize) -> bool {
+    let made = "list 20r\no 4 2013 0\nf 1\nf 0\nf 2\nf 3\nj 1 @2 @3\nc @4 @5 @1\n";
+    let walks = |walk: &str| {
+        let rows = (0..16).map(|row| format!("{walk} {row}\n"));
+        play(&sized(&format!("{made}j {code} @1 @2\n{}", rows.collect::<String>())))
+    };
+    let [plain, passed] = [walks("w @6"), walks("g @6 @7")];
+    let digits = format!("{code:04b}").repeat(4);
+    let mut rows = digits.chars().zip(plain.lines().zip(passed.lines()).skip(8));
+    rows.all(|(digit, (plain, passed))| match digit {
+        '1' => passed == plain,
+        _ => passed.starts_with("refused 14 "),
+    })
+}
+
 /// The records that ask each flag, the first on which their rules depend, are as many as the nodes
 /// that the collapse leaves.
 fn as_drawn(table: &[usize], order: &[usize]) -> bool {
@@ -119,6 +169,7 @@ pub fn faults() -> Vec<String> {
         }
     }
     faults.extend((0..16).filter(|&code| !by_digits(code)).map(|code| format!("operator {code}")));
+    faults.extend((0..16).filter(|&c| !by_pass_rule(c)).map(|code| format!("pass rule {code}")));
     for table in (0..=3).flat_map(all_tables) {
         let orders = orders(flag_count(&table), &[]).into_iter();
         let differ = orders.filter(|order| !as_drawn(&table, order));

@@ -5,6 +5,7 @@ use mathlib.Core.List.{List}
 use Prim.Native.Nat.{ℕ}
 use lib.ListN.{take, drop}
 use Rattle.rule.specs.Results.{Query as PaperQuery, tabulating, walking}
+use Rattle.rule.specs.Pass.{passOf}
 use Rattle.rule.specs.Calls.{State, Ask}
 use Rattle.store.specs.State.{stateOf}
 use Rattle.asking.specs.declared.answers.Reached.{Reached}
@@ -15,17 +16,17 @@ use Rattle.asking.specs.Answer.{answerReply, Kind, done-kind, said-kind,
 -- a call that makes no rule, by its name in Results.antt
 abbrev pub queryOf : Query → PaperQuery
 queryOf (the-query.Tabulate m length) = tabulating (m .number)
-queryOf (the-query.Walk m row) = walking (m .number) row
+queryOf (the-query.Walk m pass row) = walking (m .number) (passOf pass) row
 
 -- how many of the bytes, from the first on, it is lent (all of them, where there are fewer): tabulate as many as it says
 abbrev pub queryPart : Query → ℕ
 queryPart (the-query.Tabulate m length) = length
-queryPart (the-query.Walk m row) = 0
+queryPart (the-query.Walk m pass row) = 0
 
 -- the kind of answer that belongs to it
 abbrev pub queryKind : Query → Kind
 queryKind (the-query.Tabulate m length) = done-kind
-queryKind (the-query.Walk m row) = said-kind
+queryKind (the-query.Walk m pass row) = said-kind
 
 -- one query, from state s, cells c and bytes b: it met its contract, its answer is of the kind that belongs to it, and bytes behind those that it was lent are
 -- as found

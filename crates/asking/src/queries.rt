@@ -2,6 +2,7 @@ use crate::answers::Reached;
 use crate::answers::done;
 use crate::answers::said;
 use rule::Node;
+use rule::Pass;
 use store::Passed;
 use store::Store;
 ghost use mathlib.Core.Path.{_≡_};
@@ -15,7 +16,7 @@ ghost use Rattle.asking.specs.Query.{Answers};
 pub enum Query {
     // Into so many of the lent bytes, from the first on.
     Tabulate { rule: Node, length: u16 },
-    Walk { rule: Node, row: u16 },
+    Walk { rule: Node, pass: Pass, row: u16 },
 }
 
 // Tabulate into so many of the lent bytes, from the first on: into all, where there are fewer.
@@ -36,6 +37,6 @@ pub fn ask(store: Store, cells: &[u16], query: Query, bytes: &mut [u8]) -> Reach
 {
     match query {
         Query::Tabulate { rule, length } => done(tabulated(store, cells, rule, length, bytes)),
-        Query::Walk { rule, row } => said(store.walk(cells, rule, row)),
+        Query::Walk { rule, pass, row } => said(store.walk(cells, rule, pass, row)),
     }
 }

@@ -8,6 +8,7 @@ use lib.ListN.{getD}
 use Rattle.rule.specs.Calls.{State}
 use Rattle.rule.specs.History.{Asked}
 use Rattle.rule.specs.declared.node.Node.{Node}
+use Rattle.rule.specs.declared.pass.Pass.the-variants as the-pass
 use Rattle.asking.specs.declared.queries.Query.the-variants as the-query
 use Rattle.asking.specs.declared.requests.Making.the-variants as the-making
 use Rattle.asking.specs.declared.requests.Request.{Request}
@@ -21,8 +22,9 @@ callWords = 13
 abbrev pub node : ℕ → Node
 node m = record { number = m }
 
--- the call of a kind, 0 to 6 and any other, with its arguments; of the first argument a join takes the last eight bits. The second of tabulate is how many of
--- the lent bytes it is given, or all where there are fewer.
+-- the call of a kind, with its arguments: of the first a join takes the last eight bits; the second of tabulate is how many of the lent bytes it is given, or
+-- all where there are fewer. The kind 8 is a walk under a pass rule, its second argument, for the row that is the third; 7 and any other is a walk without one, for
+-- the row that is the second.
 abbrev pub requestBy : ℕ → ℕ → ℕ → ℕ → Request
 requestBy kind x y z =
     cond (eqb kind 0) the-request.Open
@@ -32,7 +34,8 @@ requestBy kind x y z =
     (cond (eqb kind 4) (the-request.Make (the-making.Choose (node x) (node y) (node z)))
     (cond (eqb kind 5) (the-request.Make (the-making.Fix (node x) y z))
     (cond (eqb kind 6) (the-request.Ask (the-query.Tabulate (node x) y))
-    (the-request.Ask (the-query.Walk (node x) y))))))))
+    (cond (eqb kind 8) (the-request.Ask (the-query.Walk (node x) (the-pass.Rule (node y)) z))
+    (the-request.Ask (the-query.Walk (node x) the-pass.EveryRow y)))))))))
 
 -- the call that is coded from a word on
 unfoldable pub requestAt : List ℕ → ℕ → Request

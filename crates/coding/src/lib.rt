@@ -4,6 +4,7 @@ use asking::Query;
 use asking::Request;
 use rule::Node;
 use rule::Order;
+use rule::Pass;
 use store::Store;
 ghost use mathlib.Core.Path.{_≡_};
 ghost use Prim.Native.Nat.{_+_, _%_, _≤_, _<_};
@@ -49,8 +50,14 @@ fn request_by(kind: u16, x: u16, y: u16, z: u16) -> Request
             rule: Node { number: x },
             length: y,
         }),
+        8 => Request::Ask(Query::Walk {
+            rule: Node { number: x },
+            pass: Pass::Rule(Node { number: y }),
+            row: z,
+        }),
         _ => Request::Ask(Query::Walk {
             rule: Node { number: x },
+            pass: Pass::EveryRow,
             row: y,
         }),
     }

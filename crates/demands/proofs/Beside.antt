@@ -21,8 +21,8 @@ use Rattle.rule.specs.Results.{constantTable, Making, flag, join, choose, fix, 
 use Rattle.rule.specs.Refusals.{Row, refusal, openRows, constantRows, makingRows}
 use Rattle.rule.specs.Reply.{reply, Accepted, leaves}
 use Rattle.rule.specs.Calls.{State, withUsed, Open, Constant, Holds, HoldsOr, Make}
-use Rattle.rule.specs.History.{Asked, open-call, constant-call, making-call, query-call, Call, MeetsBy, Calls, Fed, feed, OpensBy, BeginsOpen, Book, lookup, inBook, isThere, ruleAt, madeInBook, writeAt, enterBy, enter, bookOf}
-use Rattle.rule.specs.Demands.{Agrees, AgreesThroughout}
+use Rattle.rule.specs.History.{Asked, open-call, constant-call, making-call, query-call, Call, MeetsBy, Meets, Calls, Fed, fedOf, feed, OpensBy, Opens, BeginsOpen, Book, lookup, inBook, isThere, ruleAt, madeInBook, writeAt, enterBy, enter, bookOf}
+use Rattle.rule.specs.Demands.{Agrees, Throughout}
 use Rattle.rule.proofs.Book.{refused-silent}
 use Rattle.theory.proofs.Tests.{and-split}
 use Rattle.theory.proofs.Bits.{below-in}
@@ -300,18 +300,27 @@ first-step s c b (constant-call v) x y h = absurd h
 first-step s c b (making-call m) x y h = absurd h
 first-step s c b (query-call q) x y h = absurd h
 
-pub steps : {s s′ : State} {c d : List ℕ} {b : Book} (xs : List Call) → Calls s c xs s′ d → After s c b
-    → After s′ d (bookOf b (feed xs)) × AgreesThroughout b (feed xs)
-steps [] (se, ce) a = (rw (se, ce) a, tt)
-steps (x ∷ xs) (y, ys) a =
-    let (next, agrees) = step (x .asked) x y a in
-    let (last, throughout) = steps xs ys next in
-    (last, (agrees, throughout))
+steps : {s s′ : State} {c d : List ℕ} {b : Book} (xs : List Call) → Calls s c xs s′ d → After s c b → After s′ d (bookOf b (feed xs))
+steps [] (se, ce) a = rw (se, ce) a
+steps (x ∷ xs) (y, ys) a = steps xs ys (step (x .asked) x y a .0)
 
 pub steps-from-open : (s s′ : State) (c d : List ℕ) (b : Book) (xs : List Call) → Calls s c xs s′ d → BeginsOpen (feed xs)
-    → After s′ d (bookOf b (feed xs)) × AgreesThroughout b (feed xs)
+    → After s′ d (bookOf b (feed xs))
 steps-from-open s s′ c d b [] ys h = absurd h
-steps-from-open s s′ c d b (x ∷ xs) (y, ys) h =
-    let (next, agrees) = first-step s c b (x .asked) x y h in
-    let (last, throughout) = steps xs ys next in
-    (last, (agrees, throughout))
+steps-from-open s s′ c d b (x ∷ xs) (y, ys) h = steps xs ys (first-step s c b (x .asked) x y h .0)
+
+-- what holds at an accepted open, and at each call from there on, holds throughout the list
+module _ (P : Book → Fed → Type 0) (opens : (s : State) (c : List ℕ) (b : Book) (x : Call) → Meets s c x → Opens (fedOf x) → P b (fedOf x))
+    (calls : (s : State) (c : List ℕ) (b : Book) (x : Call) → Meets s c x → After s c b → P b (fedOf x)) where
+  throughout : {s : State} {c : List ℕ} {b : Book} (s′ : State) (d : List ℕ) (xs : List Call) → Calls s c xs s′ d → After s c b → Throughout P b (feed xs)
+  throughout s′ d [] ys a = tt
+  throughout {s} {c} {b} s′ d (x ∷ xs) (y, ys) a = (calls s c b x y a, throughout s′ d xs ys (step (x .asked) x y a .0))
+
+  pub throughout-from-open : (s s′ : State) (c d : List ℕ) (b : Book) (xs : List Call) → Calls s c xs s′ d → BeginsOpen (feed xs) → Throughout P b (feed xs)
+  throughout-from-open s s′ c d b [] ys h = absurd h
+  throughout-from-open s s′ c d b (x ∷ xs) (y, ys) h = (opens s c b x y h, throughout s′ d xs ys (first-step s c b (x .asked) x y h .0))
+
+-- so does that a table written over an older one equals it
+pub agrees-from-open : (s s′ : State) (c d : List ℕ) (b : Book) (xs : List Call) → Calls s c xs s′ d → BeginsOpen (feed xs) → Throughout Agrees b (feed xs)
+agrees-from-open =
+    throughout-from-open Agrees (λ s c b x y h. first-step s c b (x .asked) x y h .1) (λ s c b x y a. step (x .asked) x y a .1)

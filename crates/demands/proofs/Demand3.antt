@@ -4,28 +4,30 @@ use mathlib.Core.Path.{_≡_, refl, sym, ap, _∙_}
 use mathlib.Core.Logic.{_≢_}
 use mathlib.Core.Bool.{Bool, true, false, not, _&&_}
 use mathlib.Core.List.{List, [], _∷_}
-use mathlib.Core.Option.{some}
-use Prim.Native.Nat.{ℕ, _+_, _^_, _≤_}
+use mathlib.Core.Option.{Option, none, some}
+use Prim.Native.Nat.{ℕ, _+_, _^_, _≤_, _<_}
 use native.Mathlib.Omega.{arith}
 use borrow.Author.Tests.{le-ltb, leb-true, leb-false}
 use lib.Dec.{leb, ltb}
-use lib.ListN.{getD, drop}
+use lib.ListN.{length, getD, drop}
 use Rattle.rule.specs.Table.{fitLength}
 use Rattle.rule.specs.Order.{fitOrder}
 use Rattle.rule.specs.Cells.{fitCells}
-use Rattle.rule.specs.Walk.{walk, tableOf}
+use Rattle.rule.specs.Walk.{walk, walkValues, tableOf}
 use Rattle.rule.specs.Refusals.{Row, refusal, tabulateRows, walkRows}
 use Rattle.rule.specs.Reply.{Reply, numberOf, Accepted, leaves}
 use Rattle.rule.specs.Calls.{State, Tabulate, Walk}
-use Rattle.rule.specs.History.{Book, inBook}
-use Rattle.rule.specs.Demands.{Gives, RuleKept, Demand3}
+use Rattle.rule.specs.Results.{tabulating, walking}
+use Rattle.rule.specs.History.{Asked, open-call, constant-call, making-call, query-call, Call, MeetsBy, OpensBy, Book, inBook}
+use Rattle.rule.specs.Demands.{Gives, RowPassed, RuleKept, PassedBy, Passes, Demand3}
 use Rattle.theory.proofs.Tests.{and-split}
-use Rattle.theory.proofs.Walks.{table-row}
+use Rattle.theory.proofs.Walks.{length-table, table-row}
 use Rattle.theory.proofs.Refused.{passed}
-use Rattle.demands.proofs.Stands.{accepted-reply, accepted-zero, number-of}
+use Rattle.demands.proofs.Stands.{accepted-reply, accepted-zero, number-of, number-was}
 use Rattle.demands.proofs.Counts.{equally}
 use Rattle.demands.proofs.Packed.{packed-well}
-use Rattle.demands.proofs.Beside.{After, live, shut, steps-from-open}
+use Rattle.demands.proofs.Beside.{After, live, shut, steps-from-open, throughout-from-open, agrees-from-open}
+use Rattle.demands.proofs.PassRule as pass-rule
 
 -- ---- the number that tabulate gives
 
@@ -70,13 +72,32 @@ module _ {s : State} {c : List ℕ} {b : Book} (a : After s c b) (m : ℕ) (t : 
       let (few, (_, (o, _))) = passed rows refl z in
       x .asks .bytes-are ∙ ap (λ (k : ℕ). leaves k (tableOf (s .n) c m) bytes) z ∙ node-rule few o
 
-  walked : (row v : ℕ) (more : List ℕ) (r : Reply) (s′ : State) → Walk s c m row r s′ → Gives r (v ∷ more) → v ≡ getD t row 0
-  walked row v more r s′ x g =
-      let rows = walkRows (s .n) (s .places) c (s .used) m row in
-      let (z, e) = accepted-reply (refusal rows) (x .asks .answer) g in
-      let (few, (o, (_, (_, (_, (h, _)))))) = passed rows refl z in
+  walked : (pass : Option ℕ) (row v : ℕ) (more : List ℕ) (r : Reply) (s′ : State) → Walk s c m pass row r s′ → Gives r (v ∷ more) → v ≡ getD t row 0
+  walked pass row v more r s′ x g =
+      let (z, e) = accepted-reply (refusal (walkRows (s .n) (s .places) c (s .used) m pass row)) (x .asks .answer) g in
+      let free = pass-rule.freely (s .n) (s .used) m row pass (s .places) c z in
+      let (few, (o, (_, (_, (_, (h, _)))))) = passed (walkRows (s .n) (s .places) c (s .used) m none row) refl free in
       let v-is : v ≡ walk c m row = cc in
       v-is ∙ sym (table-row (s .n) c m row (leb-false (2 ^ s .n) row h)) ∙ ap (λ (u : List ℕ). getD u row 0) (node-rule few o)
+
+  -- as the pass rule of a walk
+  allowed : (k row : ℕ) (r : Reply) (s′ : State) → Walk s c k (some m) row r s′ → Accepted r → getD t row 0 ≡ 1
+  allowed k row r s′ x h =
+      let z = accepted-zero (refusal (walkRows (s .n) (s .places) c (s .used) k (some m) row)) (walkValues c k row) (x .asks .answer) h in
+      let ((few, (o, _)), e) = pass-rule.allowed (s .n) (s .used) k m row (s .places) c z in
+      sym (ap (λ (u : List ℕ). getD u row 0) (node-rule few o)) ∙ e
+
+  forbidden : (k row : ℕ) (r : Reply) (s′ : State) → Walk s c k (some m) row r s′ → numberOf r ≡ 14 → (row < length t) × (getD t row 0 ≡ 0)
+  forbidden k row r s′ x h =
+      let z = number-was (refusal (walkRows (s .n) (s .places) c (s .used) k (some m) row)) (walkValues c k row) (x .asks .answer) h in
+      let ((few, (o, (_, (_, (_, (_, (l, _))))))), e) = pass-rule.forbidden (s .n) (s .used) k m row (s .places) c z in
+      let same = node-rule few o in (
+        omega (arith, leb-false (2 ^ s .n) row l, ap length same, length-table (s .n) c m),
+        sym (ap (λ (u : List ℕ). getD u row 0) same) ∙ e,
+      )
+
+  row-passed : (k row : ℕ) (r : Reply) (s′ : State) → Walk s c k (some m) row r s′ → RowPassed t row r
+  row-passed k row r s′ x = (allowed k row r s′ x, forbidden k row r s′ x)
 
   there : (bytes after : List ℕ) (r : Reply) (s′ : State) → Tabulate s c m bytes r s′ after → (numberOf r ≢ 6) × (numberOf r ≢ 7)
   there bytes after r s′ x =
@@ -87,14 +108,36 @@ module _ {s : State} {c : List ℕ} {b : Book} (a : After s c b) (m : ℕ) (t : 
 rule-kept : {s : State} {c : List ℕ} {b : Book} → After s c b → (m : ℕ) (t : List ℕ) → inBook b m ≡ some t → RuleKept s c m t
 rule-kept a m t p =
     record {
-      answers = record { tabulated = tabulated a m t p; walked = walked a m t p; there = there a m t p };
+      answers = record { tabulated = tabulated a m t p; walked = walked a m t p; passed = row-passed a m t p; there = there a m t p };
       brought-out = λ bytes after r s′ x h n nodes root order cells w d y q z g.
           packed-well (rw (tabulated a m t p bytes after r s′ x h) at z) g;
     }
+
+-- ---- the list's own walks
+
+opens-passed : (b : Book) (q : Asked) (r : Reply) → OpensBy q r → PassedBy b q r
+opens-passed b (open-call given) r h = tt
+opens-passed b (constant-call v) r h = absurd h
+opens-passed b (making-call x) r h = absurd h
+opens-passed b (query-call q) r h = absurd h
+
+call-passed : {s : State} {c : List ℕ} {b : Book} (q : Asked) (x : Call) → MeetsBy q s c x → After s c b → PassedBy b q (x .answer)
+call-passed (open-call given) x y a = tt
+call-passed (constant-call v) x y a = tt
+call-passed (making-call m) x y a = tt
+call-passed (query-call (tabulating m)) x y a = tt
+call-passed (query-call (walking m none row)) x y a = tt
+call-passed (query-call (walking m (some p) row)) x (y, _) a =
+    λ t e. row-passed a p t e m row (x .answer) (x .state) (record { state = y .state; asks = record { answer = y .asks .answer; bytes-are = refl } })
 
 -- ---- the list
 
 pub demand3 : Demand3
 demand3 first s cells c b xs ys h =
-    let (last, throughout) = steps-from-open first s cells c b xs ys h in
-    record { kept = rule-kept last; rewritten = throughout; equally = equally }
+    record {
+      kept = rule-kept (steps-from-open first s cells c b xs ys h);
+      rewritten = agrees-from-open first s cells c b xs ys h;
+      passes = throughout-from-open Passes (λ s c b x y h. opens-passed b (x .asked) (x .answer) h) (λ s c b x y a. call-passed (x .asked) x y a) first s cells c b xs
+          ys h;
+      equally = equally;
+    }

@@ -15,6 +15,7 @@ pub mod NoRoom
 pub mod Demand2
 pub mod Packed
 pub mod Beside
+pub mod PassRule
 pub mod Demand3
 pub mod Reported
 pub mod Pages

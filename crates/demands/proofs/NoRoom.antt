@@ -1,8 +1,8 @@
 -- Refusal 10 of build, pack and the calls that make a rule in a store: the result needs more records than are free.
 -- Assumes nothing.
-use mathlib.Core.Path.{_≡_, refl, sym, ap, _∙_}
-use mathlib.Core.Bool.{Bool, true, false, not, _&&_, cond, true≢false}
-use mathlib.Core.List.{List, [], _∷_, _++_, Memᴰ·of-map as of-map}
+use mathlib.Core.Path.{_≡_, refl, _∙_}
+use mathlib.Core.Bool.{Bool, true, false, cond}
+use mathlib.Core.List.{List, [], _∷_, Memᴰ·of-map as of-map}
 use Prim.Native.Nat.{ℕ, _+_, _^_, _<_}
 use native.Mathlib.Omega.{arith}
 use borrow.Author.Tests.{ltb-true, ltb-false, lt-ltb, eq-eqb, not-false}
@@ -17,46 +17,29 @@ use Rattle.rule.specs.Walk.{tableOf}
 use Rattle.rule.specs.Sound.{sound}
 use Rattle.rule.specs.Reduced.{DrawnAs}
 use Rattle.rule.specs.Results.{digit, Making, flag, join, choose, fix, madeIn, needed, free}
-use Rattle.rule.specs.Refusals.{Row, refusal, flagCount, tableLength, tableRead, orderPlaces, cells, records, workspace, buildRows, ownRows, makingRows, packRows}
-use Rattle.rule.specs.Reply.{Reply, reply, numberOf}
+use Rattle.rule.specs.Refusals.{refusal, flagCount, tableLength, tableRead, orderPlaces, cells, records, workspace, buildRows, ownRows, makingRows, packRows}
+use Rattle.rule.specs.Reply.{Reply, numberOf}
 use Rattle.rule.specs.Calls.{State, Build, Make, Pack}
 use Rattle.rule.specs.Demands.{Fit, NoRoomFor}
-use Rattle.theory.proofs.Tests.{and-split, in-each}
+use Rattle.theory.proofs.Tests.{in-each}
 use Rattle.theory.proofs.Bits.{bit-lt}
 use Rattle.theory.proofs.Cofactor.{length-cofactor, row-lt, cofactor-rows}
 use Rattle.theory.proofs.Sound.{sound-shape}
 use Rattle.theory.proofs.Walks.{smaller, length-tabled, length-table, fit-table}
 use Rattle.theory.proofs.Orders.{fit-order-is, packed-fewest}
-use Rattle.theory.proofs.Refused.{Passed}
-use Rattle.demands.proofs.Stands.{number-of}
+use Rattle.theory.proofs.Refused.{Passed, others, last-given}
+use Rattle.demands.proofs.Stands.{number-was}
 use Rattle.demands.proofs.Counts.{counts}
 use Rattle.demands.proofs.Needs.{needs}
-
--- ---- the number 10
-
--- no row has the number 10
-abbrev others : List Row → Bool
-others [] = true
-others (row ∷ rows) = not (eqb (row .1) 10) && others rows
-
--- where a row with the number 10 stands behind such rows and 10 is given, these pass and it applies
-tenth : (rows : List Row) (b : Bool) → others rows ≡ true → refusal (rows ++ ((b, 10) ∷ [])) ≡ 10 → Passed rows × (b ≡ true)
-tenth [] true h e = (tt, refl)
-tenth [] false h e = absurd (omega arith)
-tenth ((true, k) ∷ rows) b h e = absurd (true≢false (sym (and-split (not (eqb k 10)) (others rows) h .0) ∙ ap not (eq-eqb k 10 e)))
-tenth ((false, k) ∷ rows) b h e = let (p, q) = tenth rows b (and-split (not (eqb k 10)) (others rows) h .1) e in ((refl, p), q)
-
-ten : (k : ℕ) (values : List ℕ) {r : Reply} → r ≡ reply k values → numberOf r ≡ 10 → k ≡ 10
-ten k values e q = sym (ap numberOf e ∙ number-of k values) ∙ q
 
 -- ---- build and pack
 
 pub no-room-built : (n used root : ℕ) (t order c d e : List ℕ) (r : Reply) → length order ≡ places → Build n t order c r d → numberOf r ≡ 10
     → DrawnAs n order t e used root → room c < used
 no-room-built n used root t order c d e r l b q x =
-    let z = ten (refusal (buildRows n t order c)) _ (b .answer) q in
+    let z = number-was (refusal (buildRows n t order c)) _ (b .answer) q in
     let ((few, (rows, (bits, (o, _)))), g) =
-    tenth (flagCount n ∷ tableLength n t ∷ tableRead t ∷ orderPlaces n order ∷ cells c ∷ []) (ltb (room c) (size (flags n order) t)) refl z in
+    last-given 9 (flagCount n ∷ tableLength n t ∷ tableRead t ∷ orderPlaces n order ∷ cells c ∷ []) (ltb (room c) (size (flags n order) t)) refl z in
     let f : Fit n order t =
     record { few = ltb-false 10 n few; kept-in = l; order-fits = not-false _ o; rows = not-false _ rows; bits = not-false _ bits } in
     omega (arith, counts n order t f e used root x, ltb-true (room c) (size (flags n order) t) g)
@@ -64,9 +47,9 @@ no-room-built n used root t order c d e r l b q x =
 pub no-room-packed : (n used root : ℕ) (t order c w d x e : List ℕ) (r : Reply) → Pack n t c w r d x → numberOf r ≡ 10 → length order ≡ places
     → fitOrder n order ≡ true → DrawnAs n order t e used root → room c < used
 no-room-packed n used root t order c w d x e r b q l o y =
-    let z = ten (refusal (packRows n t c w)) _ (b .answer) q in
+    let z = number-was (refusal (packRows n t c w)) _ (b .answer) q in
     let ((few, (rows, (bits, _))), g) =
-    tenth (flagCount n ∷ tableLength n t ∷ tableRead t ∷ cells c ∷ workspace n w ∷ []) (ltb (room c) (size (packed n t) t)) refl z in
+    last-given 9 (flagCount n ∷ tableLength n t ∷ tableRead t ∷ cells c ∷ workspace n w ∷ []) (ltb (room c) (size (packed n t) t)) refl z in
     let f : Fit n order t =
     record { few = ltb-false 10 n few; kept-in = l; order-fits = o; rows = not-false _ rows; bits = not-false _ bits } in
     omega (
@@ -113,7 +96,7 @@ made s c (fix m i b) v (pm, _) = (
   cofactor-rows i b (tableOf (s .n) c m) (node-rows s c m v pm),
 )
 
-own-others : (n used : ℕ) (x : Making) → others (ownRows n used x) ≡ true
+own-others : (n used : ℕ) (x : Making) → others 10 (ownRows n used x) ≡ true
 own-others n used (flag i) = refl
 own-others n used (join code f g) = refl
 own-others n used (choose f g h) = refl
@@ -126,9 +109,9 @@ no-room-made s s′ c d x r l b q e more m sound-e le kept hm is-t =
     let t = madeIn (s .n) c x in
     let have = free c (s .used) in
     let need = needed (s .n) (s .places) c (s .used) t in
-    let z = ten (refusal (makingRows (s .n) (s .places) c (s .used) x)) _ (b .answer) q in
+    let z = number-was (refusal (makingRows (s .n) (s .places) c (s .used) x)) _ (b .answer) q in
     let ((few, (o, (_, (v, p)))), g) =
-    tenth
+    last-given 9
     (flagCount (s .n) ∷ orderPlaces (s .n) (s .places) ∷ cells c ∷ records (s .n) (s .places) c (s .used) ∷ ownRows (s .n) (s .used) x)
     (ltb have need)
     (own-others (s .n) (s .used) x)

@@ -3,6 +3,7 @@
 use mathlib.Core.Path.{_≡_, refl, sym, ap, _∙_}
 use mathlib.Core.Logic.{_≢_}
 use mathlib.Core.List.{List, [], _∷_, map}
+use mathlib.Core.Option.{none}
 use Prim.Native.Nat.{ℕ, zero, suc, _+_, _^_, _≤_, _<_}
 use native.Mathlib.Omega.{arith}
 use borrow.Author.Tests.{ltb-false, leb-false, lt-leb, not-false}
@@ -25,11 +26,12 @@ use Rattle.theory.proofs.Walks.{smaller, table-row}
 use Rattle.theory.proofs.Asked.{passed-alike, asked-flags, asked-once-each, asked-most, asked-in}
 use Rattle.theory.proofs.Refused.{Passed, passed, none-applies}
 use Rattle.demands.proofs.Stands.{accepted-zero}
+use Rattle.demands.proofs.PassRule.{freely}
 
 -- an accepted walk, by the tests that it passed
-module _ (n used m row : ℕ) (order c : List ℕ) (z : refusal (walkRows n order c used m row) ≡ 0) where
-  tests : Passed (walkRows n order c used m row)
-  tests = passed (walkRows n order c used m row) refl z
+module _ (n used m row : ℕ) (order c : List ℕ) (z : refusal (walkRows n order c used m none row) ≡ 0) where
+  tests : Passed (walkRows n order c used m none row)
+  tests = passed (walkRows n order c used m none row) refl z
 
   few : n ≤ 10
   few = ltb-false 10 n (tests .0)
@@ -47,15 +49,15 @@ module _ (n used m row : ℕ) (order c : List ℕ) (z : refusal (walkRows n orde
   flags-lt v i = ordered .sound v (asked-flags shape ordered m node-le row v i)
 
   -- a row with the same values of the flags asked
-  alike : (other : ℕ) (r : Reply) → other < 2 ^ n → RowsAgreeOn (flagSet (flagsAsked c m row)) row other → Walks n order c used m other r
+  alike : (other : ℕ) (r : Reply) → other < 2 ^ n → RowsAgreeOn (flagSet (flagsAsked c m row)) row other → Walks n order c used m none other r
       → Gives r (walkValues c m row)
   alike other r l agree x =
-      let none : refusal (walkRows n order c used m other) ≡ 0 =
-      none-applies (walkRows n order c used m other)
-      (tests .0, (tests .1 .0, (tests .1 .1 .0, (tests .1 .1 .1 .0, (tests .1 .1 .1 .1 .0, (lt-leb (2 ^ n) other l, tt)))))) in
+      let taken : refusal (walkRows n order c used m none other) ≡ 0 =
+      none-applies (walkRows n order c used m none other)
+      (tests .0, (tests .1 .0, (tests .1 .1 .0, (tests .1 .1 .1 .0, (tests .1 .1 .1 .1 .0, (lt-leb (2 ^ n) other l, (refl, tt))))))) in
       let (records, answer) = passed-alike (smaller shape) row other m node-le (λ v i. agree v (set-in (flagsAsked c m row) v .1 i)) in
       x .answer
-      ∙ ap (λ (k : ℕ). reply k (walkValues c m other)) none
+      ∙ ap (λ (k : ℕ). reply k (walkValues c m other)) taken
       ∙ ap (λ (a : ℕ). reply 0 (a ∷ flagSet (flagsAsked c m other) ∷ length (flagsAsked c m other) ∷ [])) answer
       ∙ ap (λ (ks : List ℕ). reply 0 (walk c m row ∷ flagSet (map (flagAt c) ks) ∷ length (map (flagAt c) ks) ∷ [])) records
 
@@ -82,13 +84,13 @@ zeros (suc k) values e d = e ∙ ap (λ (i : ℕ). refused i (map (λ v. 0) valu
 pub flags-reported : FlagsReported
 flags-reported =
     record {
-      accepts = λ n used m row order c r x h.
-          let z = accepted-zero (refusal (walkRows n order c used m row)) (walkValues c m row) (x .answer) h in (
+      accepts = λ n used m row pass order c r x h.
+          let z = accepted-zero (refusal (walkRows n order c used m pass row)) (walkValues c m row) (x .answer) h in (
             walk c m row,
             flagSet (flagsAsked c m row),
             length (flagsAsked c m row),
             x .answer ∙ ap (λ (k : ℕ). reply k (walkValues c m row)) z,
-            report n used m row order c z,
+            report n used m row order c (freely n used m row pass order c z),
           );
-      refuses = λ n used m row order c r x d. zeros (refusal (walkRows n order c used m row)) (walkValues c m row) (x .answer) d;
+      refuses = λ n used m row pass order c r x d. zeros (refusal (walkRows n order c used m pass row)) (walkValues c m row) (x .answer) d;
     }

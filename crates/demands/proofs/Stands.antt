@@ -40,10 +40,16 @@ pub accepted-zero : (k : ℕ) (values : List ℕ) {r : Reply} → r ≡ reply k 
 accepted-zero zero values e h = refl
 accepted-zero (suc k) values e h = absurd (rw e at h)
 
+pub zero-accepted : (k : ℕ) (values : List ℕ) {r : Reply} → r ≡ reply k values → k ≡ 0 → Accepted r
+zero-accepted k values e z = subst Accepted (sym (e ∙ ap (λ (i : ℕ). reply i values) z)) tt
+
 -- a reply has its refusal's number
 pub number-of : (k : ℕ) (values : List ℕ) → numberOf (reply k values) ≡ k
 number-of zero values = refl
 number-of (suc k) values = refl
+
+pub number-was : (k : ℕ) (values : List ℕ) {r : Reply} {j : ℕ} → r ≡ reply k values → numberOf r ≡ j → k ≡ j
+number-was k values e q = sym (ap numberOf e ∙ number-of k values) ∙ q
 
 module _ (n : ℕ) (order c : List ℕ) (used root : ℕ) (few : n ≤ 10) (o : fitOrder n order ≡ true) (f : fitCells c ≡ true)
     (d : diagram n order c used root ≡ true) where

@@ -6,7 +6,10 @@ use rule::Done;
 use rule::Drawn;
 use rule::Node;
 use rule::Order;
+use rule::Pass;
 use rule::Said;
+ghost use mathlib.Core.Option.{none, some};
+ghost use Rattle.rule.specs.Pass.{passOf};
 ghost use Rattle.rule.specs.Calls.{Build, Check, Walks, Tabulates};
 ghost use Rattle.exports.specs.Word.{Codes};
 
@@ -38,17 +41,9 @@ pub extern "C" fn engine_check(n: u8, places: &[u8; 10], cells: &[u16], used: u1
     }
 }
 
-// Walk: the answer, the set of the flags asked, and their number.
-#[no_mangle]
-pub extern "C" fn engine_walk(
-    n: u8,
-    places: &[u8; 10],
-    cells: &[u16],
-    used: u16,
-    node: u16,
-    row: u16,
-) -> u64
-    ensures { λ r. ⌜ Codes (Walks n (now (places .entry)) (now (cells .entry)) used node row) r ⌝ }
+// Walk, with a pass rule or without: the answer, the set of the flags asked, and their number.
+fn walk(n: u8, places: &[u8; 10], cells: &[u16], used: u16, node: u16, pass: Pass, row: u16) -> u64
+    ensures { λ r. ⌜ Codes (Walks n (now (places .entry)) (now (cells .entry)) used node (passOf pass) row) r ⌝ }
 {
     match walking::walk(
         n,
@@ -56,6 +51,7 @@ pub extern "C" fn engine_walk(
         cells,
         used,
         Node { number: node },
+        pass,
         row,
     ) {
         Said::Answer {
@@ -65,6 +61,45 @@ pub extern "C" fn engine_walk(
         } => walked(answer, asked, count),
         Said::Refused(k) => answer(k, 0, 0),
     }
+}
+
+// Walk without a pass rule.
+#[no_mangle]
+pub extern "C" fn engine_walk(
+    n: u8,
+    places: &[u8; 10],
+    cells: &[u16],
+    used: u16,
+    node: u16,
+    row: u16,
+) -> u64
+    ensures { λ r. ⌜ Codes (Walks n (now (places .entry)) (now (cells .entry)) used node none row) r ⌝ }
+{
+    walk(n, places, cells, used, node, Pass::EveryRow, row)
+}
+
+// Walk under a pass rule's node.
+#[no_mangle]
+pub extern "C" fn engine_walk_under(
+    n: u8,
+    places: &[u8; 10],
+    cells: &[u16],
+    used: u16,
+    node: u16,
+    pass: u16,
+    row: u16,
+) -> u64
+    ensures { λ r. ⌜ Codes (Walks n (now (places .entry)) (now (cells .entry)) used node (some pass) row) r ⌝ }
+{
+    walk(
+        n,
+        places,
+        cells,
+        used,
+        node,
+        Pass::Rule(Node { number: pass }),
+        row,
+    )
 }
 
 // Tabulate: no value.

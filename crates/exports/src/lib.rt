@@ -1,4 +1,5 @@
-// C names for seven of the calls, for the programs of bench/ to measure: `rt staticlib exports` makes the library, and bench/engine.h declares them for C.
+// C names for seven of the calls, walk under a pass rule by one of its own, for the programs of bench/ to measure: `rt staticlib exports` makes the library, and
+// bench/engine.h declares them for C.
 //
 // Each promises the relation of the call that it wraps, of the reply that its number codes (`specs/Word.antt`): the refusal, 0 where the call is accepted, then
 // the values that it hands back. Numbers go through as they are. An order is a reference to its ten bytes, a node its number. C passes a slice as a pointer and
@@ -15,6 +16,7 @@ pub use diagram::engine_build;
 pub use diagram::engine_check;
 pub use diagram::engine_tabulate;
 pub use diagram::engine_walk;
+pub use diagram::engine_walk_under;
 pub use filed::engine_read;
 pub use kept::engine_join;
 pub use packed::engine_pack;

@@ -36,7 +36,7 @@ noteAt a k = take noteWords (drop (k * noteWords) a)
 -- how many values a call hands back, which is known from what it is
 abbrev pub queryValues : Query → ℕ
 queryValues (tabulating m) = 0
-queryValues (walking m row) = 3
+queryValues (walking m pass row) = 3
 
 abbrev pub askedValues : Asked → ℕ
 askedValues (open-call given) = 0

@@ -36,8 +36,8 @@ reply-read s c (making-call m) x y =
     (y .answer)
 reply-read s c (query-call (tabulating m)) x (y, _) =
     told (query-call (tabulating m)) [] (refusal (tabulateRows (s .n) (s .places) c (s .used) m (x .lent))) refl (λ i. refl) (y .asks .answer)
-reply-read s c (query-call (walking m row)) x (y, _) =
-    told (query-call (walking m row)) (walkValues c m row) (refusal (walkRows (s .n) (s .places) c (s .used) m row)) refl (λ i. refl) (y .asks .answer)
+reply-read s c (query-call (walking m pass row)) x (y, _) =
+    told (query-call (walking m pass row)) (walkValues c m row) (refusal (walkRows (s .n) (s .places) c (s .used) m pass row)) refl (λ i. refl) (y .asks .answer)
 
 -- ---- the calls of a list
 

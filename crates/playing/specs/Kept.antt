@@ -23,8 +23,8 @@ pub record RunKept (w a : List ℕ) (made : ℕ) (xs : List Call) (s : State) (d
   pub fed : fedPlayed w a made ≡ feed xs
   -- they begin with an accepted open
   pub begins : BeginsOpen (fedPlayed w a made)
-  -- each rule in the plain book of these calls and the run's own answers (`bookPlayed`) is kept in s and d, each table written over an older one equals it, and
-  -- what else demand 3 claims
+  -- each rule in the plain book of these calls and the run's own answers (`bookPlayed`) is kept in s and d, each table written over an older one equals it, each
+  -- walk under a pass rule in the book went by the book, and what else demand 3 claims
   pub after : AfterList s d emptyBook (fedPlayed w a made)
 
 -- so it is of whatever run, if it made a call and its first is such an open

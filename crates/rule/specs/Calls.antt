@@ -6,6 +6,7 @@
 use mathlib.Core.Path.{_≡_}
 use mathlib.Core.Bool.{true, cond, _||_}
 use mathlib.Core.List.{List, [], _∷_}
+use mathlib.Core.Option.{Option}
 use Prim.Native.Nat.{ℕ, zero, suc, _+_, _*_, _≤_, _<_}
 use lib.Dec.{eqb}
 use lib.ListN.{length, take, replicate}
@@ -34,16 +35,17 @@ Check n order c used root r = r ≡ reply (refusal (checkRows n order c used roo
 -- what becomes of the bytes lent to a call that makes no rule, under a refusal's number: tabulate alone writes them
 abbrev pub lentAfter : ℕ → ℕ → List ℕ → Query → List ℕ → List ℕ
 lentAfter k n c (tabulating m) lent = leaves k (tableOf n c m) lent
-lentAfter k n c (walking m row) lent = lent
+lentAfter k n c (walking m pass row) lent = lent
 
 -- a call that makes no rule: "these .. take any node of sound cells"
 pub record Asks (n : ℕ) (order c : List ℕ) (used : ℕ) (q : Query) (lent : List ℕ) (r : Reply) (after : List ℕ) : Type 0 where
   pub answer : r ≡ reply (refusal (queryRows n order c used q lent)) (answered n c q)
   pub bytes-are : after ≡ lentAfter (refusal (queryRows n order c used q lent)) n c q lent
 
--- "A walk .. hands back the answer", and "beside its answer, a ten-bit set of the flags asked and their number" (request 2): for one row; it is lent no bytes
-abbrev pub Walks : ℕ → List ℕ → List ℕ → ℕ → ℕ → ℕ → Reply → Type 0
-Walks n order c used m row r = Asks n order c used (walking m row) [] r []
+-- "A walk .. hands back the answer", and "beside its answer, a ten-bit set of the flags asked and their number" (request 2): for one row, which
+-- the pass rule that it "may be given" may forbid (request 5); it is lent no bytes
+abbrev pub Walks : ℕ → List ℕ → List ℕ → ℕ → ℕ → Option ℕ → ℕ → Reply → Type 0
+Walks n order c used m pass row r = Asks n order c used (walking m pass row) [] r []
 
 -- "tabulate a rule into lent bytes"
 abbrev pub Tabulates : ℕ → List ℕ → List ℕ → ℕ → ℕ → List ℕ → Reply → List ℕ → Type 0
@@ -66,8 +68,8 @@ pub record Ask (s : State) (c : List ℕ) (q : Query) (lent : List ℕ) (r : Rep
   pub state : s′ ≡ s
   pub asks : Asks (s .n) (s .places) c (s .used) q lent r after
 
-abbrev pub Walk : State → List ℕ → ℕ → ℕ → Reply → State → Type 0
-Walk s c m row r s′ = Ask s c (walking m row) [] r s′ []
+abbrev pub Walk : State → List ℕ → ℕ → Option ℕ → ℕ → Reply → State → Type 0
+Walk s c m pass row r s′ = Ask s c (walking m pass row) [] r s′ []
 
 abbrev pub Tabulate : State → List ℕ → ℕ → List ℕ → Reply → State → List ℕ → Type 0
 Tabulate s c m bytes r s′ after = Ask s c (tabulating m) bytes r s′ after

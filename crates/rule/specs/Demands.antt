@@ -1,13 +1,13 @@
--- Demands 2 and 3, each as one statement over the outcomes of Calls.antt, Files.antt and Sheet.antt, and five more: what holds of the set and the number that
--- a walk hands back, which order pack takes of several, in which sequence records stand, that what the writer writes the reader reads, and that printed pages
--- give back every record. (Demand 1 is the contracts themselves: no call has a condition, each gives its number and every lent buffer, and the check proves
--- that it reads, writes and ends within what it was given.)
+-- Demands 2 and 3, each as one statement over the outcomes of Calls.antt, Files.antt and Sheet.antt, and six more: what holds of the set and the number that
+-- a walk hands back, which walks a pass rule refuses, which order pack takes of several, in which sequence records stand, that what the writer writes the reader
+-- reads, and that printed pages give back every record. (Demand 1 is the contracts themselves: no call has a condition, each gives its number and every lent
+-- buffer, and the check proves that it reads, writes and ends within what it was given.)
 -- Assumes nothing.
 use mathlib.Core.Path.{_≡_}
 use mathlib.Core.Logic.{_≢_, _↔_}
 use mathlib.Core.Bool.{true}
 use mathlib.Core.List.{List, [], _∷_, map, List·Memᴰ}
-use mathlib.Core.Option.{some}
+use mathlib.Core.Option.{Option, none, some}
 use Prim.Native.Nat.{ℕ, _+_, _*_, _^_, _≤_, _<_}
 use lib.Dec.{eqb}
 use lib.ListN.{length, getD, take}
@@ -18,17 +18,18 @@ use Rattle.rule.specs.Level.{levelCount, size}
 use Rattle.rule.specs.Order.{places, flags, fitOrder, askedBefore, Lex}
 use Rattle.rule.specs.Sets.{setSize}
 use Rattle.rule.specs.Cells.{width, fitCells, room, flagAt, lowAt, highAt, RecordValues, laidIn, recordIn, recordsIn}
-use Rattle.rule.specs.Walk.{recordsPassed, flagsAsked, tableOf}
+use Rattle.rule.specs.Walk.{recordsPassed, flagsAsked, walkValues, tableOf}
 use Rattle.rule.specs.Sound.{sound}
 use Rattle.rule.specs.Diagram.{diagram, asking}
 use Rattle.rule.specs.Sequence.{inSequence, drawing}
 use Rattle.rule.specs.Reduced.{DrawnAs}
-use Rattle.rule.specs.Results.{Making, madeIn, needed, rootBy}
-use Rattle.rule.specs.Reply.{Reply, accepted, refused, numberOf, Accepted}
+use Rattle.rule.specs.Results.{Making, madeIn, needed, rootBy, Query, tabulating, walking}
+use Rattle.rule.specs.Refusals.{refusal, flagCount, orderPlaces, cells, records, node, rowArgument}
+use Rattle.rule.specs.Reply.{Reply, accepted, refused, reply, numberOf, Accepted}
 use Rattle.rule.specs.Calls.{State, Build, Check, Walks, Tabulates, Tabulate, Walk, Make, Pack}
 use Rattle.rule.specs.Files.{bytesOf, reading, recordsFiled, labelOf, Reads, Writes}
 use Rattle.rule.specs.Sheet.{lineLength, pageLines, pageBytes, pagesFor, sheetLines, sheet, Prints, linesIn, readPages}
-use Rattle.rule.specs.History.{Call, Calls, Fed, feed, Opens, BeginsOpen, Book, inBook, enter, bookOf}
+use Rattle.rule.specs.History.{Asked, open-call, constant-call, making-call, query-call, Call, Calls, Fed, feed, Opens, BeginsOpen, Book, inBook, enter, bookOf}
 
 -- n flags in a fit order, and a fit table of theirs
 pub record Fit (n : ℕ) (order t : List ℕ) : Type 0 where
@@ -116,11 +117,17 @@ pub record Demand2 : Type 0 where
 
 -- ---- demand 3
 
+-- what the table of a walk's pass rule has in its row, by the walk's answer (request 5): 1 where it is accepted, 0 where it is refused under 14
+abbrev pub RowPassed : List ℕ → ℕ → Reply → Type 0
+RowPassed t row r = (Accepted r → getD t row 0 ≡ 1) × (numberOf r ≡ 14 → (row < length t) × (getD t row 0 ≡ 0))
+
 -- "each rule in the scope paper's plain book of these calls answers, row by row, what the book has, wherever tabulating or walking it is accepted" (a walk's
--- answer is the first value that it hands back), and "tabulating a rule in the book gives neither 6 nor 7"
+-- answer is the first value that it hands back, with a pass rule or without), and "tabulating a rule in the book gives neither 6 nor 7". Where a walk, from
+-- whichever node, has it for its pass rule, the book has in the walk's row what `RowPassed` says
 pub record AnswersAs (s : State) (c : List ℕ) (m : ℕ) (t : List ℕ) : Type 0 where
   pub tabulated : (bytes after : List ℕ) (r : Reply) (s′ : State) → Tabulate s c m bytes r s′ after → Accepted r → after ≡ t
-  pub walked : (row a : ℕ) (more : List ℕ) (r : Reply) (s′ : State) → Walk s c m row r s′ → Gives r (a ∷ more) → a ≡ getD t row 0
+  pub walked : (pass : Option ℕ) (row a : ℕ) (more : List ℕ) (r : Reply) (s′ : State) → Walk s c m pass row r s′ → Gives r (a ∷ more) → a ≡ getD t row 0
+  pub passed : (k row : ℕ) (r : Reply) (s′ : State) → Walk s c k (some m) row r s′ → RowPassed t row r
   pub there : (bytes after : List ℕ) (r : Reply) (s′ : State) → Tabulate s c m bytes r s′ after → (numberOf r ≢ 6) × (numberOf r ≢ 7)
 
 -- "its packed diagram tabulates to that same table; the node count handed back is the number of its records, and every other order of the flags draws
@@ -145,10 +152,27 @@ pub record RuleKept (s : State) (c : List ℕ) (m : ℕ) (t : List ℕ) : Type 0
 abbrev pub Agrees : Book → Fed → Type 0
 Agrees b e = (m : ℕ) (t u : List ℕ) → inBook b m ≡ some t → inBook (enter b e) m ≡ some u → (Opens e → ⊥) → t ≡ u
 
--- so at every call of a list, as the book is fed one after the other
-abbrev pub AgreesThroughout : Book → List Fed → Type 0
-AgreesThroughout b [] = Unit {0}
-AgreesThroughout b (e ∷ es) = Agrees b e × AgreesThroughout (enter b e) es
+-- of a walk under a pass rule that is in the book (request 5): the book has in the walk's row what `RowPassed` says
+abbrev pub QueryPassed : Book → Query → Reply → Type 0
+QueryPassed b (tabulating m) r = Unit {0}
+QueryPassed b (walking m none row) r = Unit {0}
+QueryPassed b (walking m (some p) row) r = (t : List ℕ) → inBook b p ≡ some t → RowPassed t row r
+
+-- of any other call nothing is said
+abbrev pub PassedBy : Book → Asked → Reply → Type 0
+PassedBy b (open-call given) r = Unit {0}
+PassedBy b (constant-call v) r = Unit {0}
+PassedBy b (making-call x) r = Unit {0}
+PassedBy b (query-call q) r = QueryPassed b q r
+
+-- so at call e
+abbrev pub Passes : Book → Fed → Type 0
+Passes b e = PassedBy b (e .asked) (e .answer)
+
+-- what is said of a call and the book before it holds at every call of a list, as the book is fed one after the other
+abbrev pub Throughout : (Book → Fed → Type 0) → Book → List Fed → Type 0
+Throughout P b [] = Unit {0}
+Throughout P b (e ∷ es) = P b e × Throughout P (enter b e) es
 
 -- "The set asked before a flag is the flags standing before it in the order": the same set for two orders
 abbrev pub SameBefore : ℕ → ℕ → List ℕ → List ℕ → Type 0
@@ -163,7 +187,8 @@ EquallyMany n t =
 -- what is claimed of a list of calls that has led to state s and cells c, where b is the book before it and es is what it is fed
 pub record AfterList (s : State) (c : List ℕ) (b : Book) (es : List Fed) : Type 0 where
   pub kept : (m : ℕ) (t : List ℕ) → inBook (bookOf b es) m ≡ some t → RuleKept s c m t
-  pub rewritten : AgreesThroughout b es
+  pub rewritten : Throughout Agrees b es
+  pub passes : Throughout Passes b es
   pub equally : (n : ℕ) (t : List ℕ) → EquallyMany n t
 
 -- Demand 3: one claim about any list of calls that begins with an accepted open, from any state, any cells and any book
@@ -189,8 +214,9 @@ pub record WalkReport (n : ℕ) (order c : List ℕ) (used m row answer set coun
   -- "the number is that of the records passed, and is at most n"
   pub records : count ≡ length (recordsPassed c m row)
   pub most : count ≤ n
-  -- "which flags an answer rested on": for any other row with the same values of them the walk is accepted with the same answer, set and number
-  pub rested : (other : ℕ) (r : Reply) → other < 2 ^ n → RowsAgreeOn set row other → Walks n order c used m other r
+  -- "which flags an answer rested on": for any other row with the same values of them the walk without a pass rule is accepted with the same answer, set and
+  -- number (under a pass rule that allows the other row too: `PassRule.allows` and `same`)
+  pub rested : (other : ℕ) (r : Reply) → other < 2 ^ n → RowsAgreeOn set row other → Walks n order c used m none other r
       → Gives r (answer ∷ set ∷ count ∷ [])
   -- the flags asked depend on the rule, the order and the row alone: v is one of them exactly where the rule, with the flags before v fixed as in
   -- the row, depends on v
@@ -198,12 +224,36 @@ pub record WalkReport (n : ℕ) (order c : List ℕ) (used m row answer set coun
 
 -- of a walk of a single diagram, and so of a store's: its `Walk` has this relation in its field `asks`
 pub record FlagsReported : Type 0 where
-  -- an accepted walk hands back three values
-  pub accepts : (n used m row : ℕ) (order c : List ℕ) (r : Reply) → Walks n order c used m row r → Accepted r
+  -- an accepted walk, with a pass rule or without, hands back three values
+  pub accepts : (n used m row : ℕ) (pass : Option ℕ) (order c : List ℕ) (r : Reply) → Walks n order c used m pass row r → Accepted r
       → (answer : ℕ) × (set : ℕ) × (count : ℕ) × Gives r (answer ∷ set ∷ count ∷ []) × WalkReport n order c used m row answer set count
   -- a refused one its number and three zeros
-  pub refuses : (n used m row : ℕ) (order c : List ℕ) (r : Reply) → Walks n order c used m row r → numberOf r ≢ 0
+  pub refuses : (n used m row : ℕ) (pass : Option ℕ) (order c : List ℕ) (r : Reply) → Walks n order c used m pass row r → numberOf r ≢ 0
       → r ≡ refused (numberOf r) (0 ∷ 0 ∷ 0 ∷ [])
+
+-- ---- snapshots that can't happen (request 5)
+
+-- of a walk under pass rule p, whose reply is r, beside the same walk without one, whose reply is q; and so of a store's, as above
+pub record PassRule : Type 0 where
+  -- without one all is as before: 1 4 5 6 7 9, and the rule's own values
+  pub without : (n used m row : ℕ) (order c : List ℕ) (q : Reply) → Walks n order c used m none row q
+      → q ≡ reply (refusal (flagCount n ∷ orderPlaces n order ∷ cells c ∷ records n order c used ∷ node used m ∷ rowArgument n row ∷ [])) (walkValues c m row)
+  -- "a row for which it says no can't happen and is refused": under 14 exactly where the walk without a pass rule is accepted, p is a node of the cells, and
+  -- p's table has 0 in that row
+  pub forbids : (n used m p row : ℕ) (order c : List ℕ) (q r : Reply) → Walks n order c used m none row q → Walks n order c used m (some p) row r
+      → (numberOf r ≡ 14) ↔ (Accepted q × (p ≤ used + 1) × (getD (tableOf n c p) row 0 ≡ 0))
+  -- accepted exactly where the walk without one is, p is a node of the cells, and p's table has 1 in that row
+  pub allows : (n used m p row : ℕ) (order c : List ℕ) (q r : Reply) → Walks n order c used m none row q → Walks n order c used m (some p) row r
+      → Accepted r ↔ (Accepted q × (p ≤ used + 1) × (getD (tableOf n c p) row 0 ≡ 1))
+  -- and then with the same values: "The flags a walk reports are the rule's own."
+  pub same : (n used m p row : ℕ) (order c : List ℕ) (q r : Reply) → Walks n order c used m none row q → Walks n order c used m (some p) row r
+      → Accepted r → r ≡ q
+  -- what is refused without one is refused alike; where p is no node of the cells, a walk is 7 that would be accepted or 9
+  pub refuses : (n used m p row : ℕ) (order c : List ℕ) (q r : Reply) → Walks n order c used m none row q → Walks n order c used m (some p) row r
+      → (numberOf q ≢ 0 → numberOf q ≢ 9 → r ≡ q) × (numberOf q ≡ 9 → p ≤ used + 1 → r ≡ q)
+      × (numberOf q ≡ 0 → used + 1 < p → numberOf r ≡ 7) × (numberOf q ≡ 9 → used + 1 < p → numberOf r ≡ 7)
+  -- the pass rule "yes" is the same as none
+  pub yes : (n used m row : ℕ) (order c : List ℕ) (r : Reply) → Walks n order c used m (some 1) row r ↔ Walks n order c used m none row r
 
 -- ---- the packed order
 

@@ -3,6 +3,7 @@
 -- Assumes nothing.
 use mathlib.Core.Bool.{Bool, not, _&&_}
 use mathlib.Core.List.{List, [], _∷_, _++_}
+use mathlib.Core.Option.{Option, none, some}
 use Prim.Native.Nat.{ℕ, _+_, _-_, _*_}
 use Prim.Native.String.{String}
 use lib.Dec.{eqb}
@@ -52,6 +53,8 @@ pub data Example : Type 0 where
   draws : String → String → List RecordValues → Example
   -- in records under this order the walk from the node, for the row, has this number and these values
   walks : String → List RecordValues → ℕ → ℕ → ℕ → List ℕ → Example
+  -- and so the walk from the first node, under the second as its pass rule
+  walksUnder : String → List RecordValues → ℕ → ℕ → ℕ → ℕ → List ℕ → Example
   -- the cells of the table under the order hold these records, and 0 past them; their neighbours pass the test of the sequence
   stands : String → String → List RecordValues → Example
   -- the records are the diagram of the table under the order, in another sequence
@@ -109,9 +112,13 @@ abbrev pub isInSequence : String → List RecordValues → Bool
 isInSequence o rs = inSequence (length (digits o)) (inPlaces (digits o)) (recordCells rs) (length rs)
 
 -- what a walk in just these records hands back, by the definitions that its contract has
-abbrev pub walkReply : List ℕ → List RecordValues → ℕ → ℕ → Reply
-walkReply o rs m row =
-    reply (refusal (walkRows (length o) (inPlaces o) (recordCells rs) (length rs) m row)) (answered (length o) (recordCells rs) (walking m row))
+abbrev pub walkReply : List ℕ → List RecordValues → ℕ → Option ℕ → ℕ → Reply
+walkReply o rs m pass row =
+    reply (refusal (walkRows (length o) (inPlaces o) (recordCells rs) (length rs) m pass row)) (answered (length o) (recordCells rs) (walking m pass row))
+
+-- a reply has this number and these values
+abbrev pub tells : Reply → ℕ → List ℕ → Bool
+tells r k values = eqb (numberOf r) k && same (valuesOf r) values
 
 unfoldable pub holds : Example → Bool
 holds (nodes t k) = eqb (size (packedOf t) (digits t)) k
@@ -125,8 +132,8 @@ holds (file f n k m) =
 holds (refusedFile f k) = eqb (readNumber (reading lentCells f)) k
 holds (refusedLabel many k) = eqb (refusal (writeRows 0 (rising 0) [] 0 0 (replicate many 0x41) [])) k
 holds (draws t o rs) = isDrawn t o rs
-holds (walks o rs m row k values) =
-    eqb (numberOf (walkReply (digits o) rs m row)) k && same (valuesOf (walkReply (digits o) rs m row)) values
+holds (walks o rs m row k values) = tells (walkReply (digits o) rs m none row) k values
+holds (walksUnder o rs m p row k values) = tells (walkReply (digits o) rs m (some p) row) k values
 holds (stands t o rs) =
     same (drawing (flagsOf (digits t)) (inPlaces (digits o)) (digits t) lentCells) (inLent rs) && isInSequence o rs
 holds (strays t o rs) = isDrawn t o rs && not (isInSequence o rs)
@@ -235,4 +242,20 @@ examples =
     ∷ prints (replicate 59 (branch 9 1024 1023)) 119 "page               2"
     ∷ readsLine "   60  9  1024  1023" 60 (branch 9 1024 1023)
     ∷ readsLine "    2 10     0     1" 2 (branch 10 0 1)
+    -- request 5: the pass rule, node 4, is flag 1 or flag 2; the flags reported are the rule's. "no" forbids each row, "yes" none, the rule itself those that it
+    -- says no to. 9 stands ahead of 14; 7, for the pass rule as for the rule, ahead of 9; and 6, under another order, ahead of that
+    ∷ walksUnder "012" majority 5 4 1 14 (0 ∷ 0 ∷ 0 ∷ [])
+    ∷ walksUnder "012" majority 5 4 2 0 (0 ∷ 7 ∷ 3 ∷ [])
+    ∷ walksUnder "012" majority 5 4 3 0 (1 ∷ 3 ∷ 2 ∷ [])
+    ∷ walksUnder "012" majority 5 0 7 14 (0 ∷ 0 ∷ 0 ∷ [])
+    ∷ walksUnder "012" majority 5 1 0 0 (0 ∷ 3 ∷ 2 ∷ [])
+    ∷ walksUnder "012" majority 5 5 0 14 (0 ∷ 0 ∷ 0 ∷ [])
+    ∷ walksUnder "012" majority 5 5 7 0 (1 ∷ 3 ∷ 2 ∷ [])
+    ∷ walksUnder "012" majority 1 5 7 0 (1 ∷ 0 ∷ 0 ∷ [])
+    ∷ walksUnder "012" majority 5 0 8 9 (0 ∷ 0 ∷ 0 ∷ [])
+    ∷ walksUnder "012" majority 5 6 8 7 (0 ∷ 0 ∷ 0 ∷ [])
+    ∷ walksUnder "012" majority 6 0 8 7 (0 ∷ 0 ∷ 0 ∷ [])
+    ∷ walksUnder "201" majority 5 6 8 6 (0 ∷ 0 ∷ 0 ∷ [])
+    -- the pass rule too goes by flags, not by their places: node 4 is flag 2, or flags 1 and 3
+    ∷ walksUnder "0213" eitherPair 5 4 4 0 (0 ∷ 3 ∷ 2 ∷ [])
     ∷ []

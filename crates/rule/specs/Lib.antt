@@ -10,6 +10,7 @@ pub mod Sound
 pub mod Diagram
 pub mod Sequence
 pub mod Reduced
+pub mod Pass
 pub mod Results
 pub mod Refusals
 pub mod Reply

@@ -1,8 +1,9 @@
--- The refusal table, row by row, and for every call the rows that it tests, in its sequence (document 01, "Refused, by where it is found").
+-- The refusal table, row by row, and for every call the rows that it tests, in its sequence (document 01, "Refused, by where it is found"; 14: document 02, request 5).
 -- The reader's own sequence and the writer's rows are in Files.antt, print's rows in Sheet.antt.
 -- Assumes nothing.
 use mathlib.Core.Bool.{Bool, true, false, not, _&&_, _||_}
 use mathlib.Core.List.{List, [], _∷_, _++_, map}
+use mathlib.Core.Option.{Option}
 use Prim.Native.Nat.{ℕ, _+_, _^_}
 use lib.Dec.{leb, ltb}
 use lib.ListN.{length}
@@ -12,6 +13,7 @@ use Rattle.rule.specs.Order.{flags, fitOrder, packed}
 use Rattle.rule.specs.Cells.{fitCells, room}
 use Rattle.rule.specs.Sound.{sound}
 use Rattle.rule.specs.Diagram.{allReached}
+use Rattle.rule.specs.Pass.{passNodes, forbids}
 use Rattle.rule.specs.Results.{Making, flag, join, choose, fix, rulesAmong, madeIn, needed, free, Query, tabulating, walking}
 
 -- a row of the table: whether it applies, and its number
@@ -85,6 +87,10 @@ valueArgument v = (ltb 1 v, 9)
 abbrev pub result : ℕ → ℕ → Row
 result need have = (ltb have need, 10)
 
+-- "row that the pass rule forbids" (request 5)
+abbrev pub passArgument : ℕ → List ℕ → Option ℕ → ℕ → Row
+passArgument n c pass r = (forbids n c pass r, 14)
+
 -- ---- the calls
 
 abbrev pub buildRows : ℕ → List ℕ → List ℕ → List ℕ → List Row
@@ -94,8 +100,19 @@ buildRows n t o c =
 abbrev pub checkRows : ℕ → List ℕ → List ℕ → ℕ → ℕ → List Row
 checkRows n o c used root = flagCount n ∷ orderPlaces n o ∷ cells c ∷ diagramRecords n o c used root ∷ node used root ∷ []
 
-abbrev pub walkRows : ℕ → List ℕ → List ℕ → ℕ → ℕ → ℕ → List Row
-walkRows n o c used m r = flagCount n ∷ orderPlaces n o ∷ cells c ∷ records n o c used ∷ node used m ∷ rowArgument n r ∷ []
+-- what is tested of a row: 14 "tested after 9" (request 5)
+abbrev pub rowRows : ℕ → List ℕ → Option ℕ → ℕ → List Row
+rowRows n c pass r = rowArgument n r ∷ passArgument n c pass r ∷ []
+
+-- 7 for the rule, then for the pass rule
+abbrev pub walkRows : ℕ → List ℕ → List ℕ → ℕ → ℕ → Option ℕ → ℕ → List Row
+walkRows n o c used m pass r =
+    flagCount n
+    ∷ orderPlaces n o
+    ∷ cells c
+    ∷ records n o c used
+    ∷ node used m
+    ∷ (map (node used) (passNodes pass) ++ rowRows n c pass r)
 
 -- "tabulate a rule into lent bytes": their length is tested, and none of them is read
 abbrev pub tabulateRows : ℕ → List ℕ → List ℕ → ℕ → ℕ → List ℕ → List Row
@@ -105,7 +122,7 @@ tabulateRows n o c used m bytes =
 -- those of a call that makes no rule, with the bytes that it is lent
 abbrev pub queryRows : ℕ → List ℕ → List ℕ → ℕ → Query → List ℕ → List Row
 queryRows n o c used (tabulating m) bytes = tabulateRows n o c used m bytes
-queryRows n o c used (walking m row) bytes = walkRows n o c used m row
+queryRows n o c used (walking m pass row) bytes = walkRows n o c used m pass row
 
 -- "open tests neither 6 nor 7"
 abbrev pub openRows : ℕ → List ℕ → List ℕ → List Row

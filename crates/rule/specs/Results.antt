@@ -1,8 +1,9 @@
 -- The calls that make a rule, the tables that they make, and the records that a result needs; the calls that make none, and what they hand back (document 01,
--- "The store", "The book beside the store" and, of a root, "Tables, orders, nodes"; what a walk hands back: request 2).
+-- "The store", "The book beside the store" and, of a root, "Tables, orders, nodes"; what a walk hands back: request 2, its pass rule: request 5).
 -- Assumes nothing.
 use mathlib.Core.Bool.{true, false, not, cond}
 use mathlib.Core.List.{List, [], _∷_, map}
+use mathlib.Core.Option.{Option}
 use Prim.Native.Nat.{ℕ, _+_, _*_, _-_, _/_, _%_, _^_}
 use lib.Dec.{eqb}
 use lib.ListN.{length, getD}
@@ -104,10 +105,10 @@ madeNode n order c used t =
 pub data Query : Type 0 where
   -- "tabulate a rule into lent bytes"
   tabulating : (m : ℕ) → Query
-  -- "or walk it for one row"
-  walking : (m row : ℕ) → Query
+  -- "or walk it for one row"; it "may be given a pass rule" (request 5)
+  walking : (m : ℕ) (pass : Option ℕ) (row : ℕ) → Query
 
--- the values that it hands back
+-- the values that it hands back: "The flags a walk reports are the rule's own", whatever its pass rule
 abbrev pub answered : ℕ → List ℕ → Query → List ℕ
 answered n c (tabulating m) = []
-answered n c (walking m row) = walkValues c m row
+answered n c (walking m pass row) = walkValues c m row

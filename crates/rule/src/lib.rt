@@ -1,9 +1,10 @@
-// The values that the engine's calls take and hand back (document 01): orders, nodes, and the answer of each call; and the numbers of a rule file by name.
-// What they mean is in specs/; every other crate's contracts cite those definitions.
+// The values that the engine's calls take and hand back (document 01): orders, nodes, a walk's pass rule, and the answer of each call; and the numbers of a rule
+// file by name. What they mean is in specs/; every other crate's contracts cite those definitions.
 mod answer;
 mod file;
 mod node;
 mod order;
+mod pass;
 
 pub use answer::Counted;
 pub use answer::Done;
@@ -26,3 +27,4 @@ pub use file::RECORDS_BIT;
 pub use file::YES_BIT;
 pub use node::Node;
 pub use order::Order;
+pub use pass::Pass;

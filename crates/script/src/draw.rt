@@ -8,6 +8,7 @@ use rule::Done;
 use rule::Drawn;
 use rule::Node;
 use rule::Order;
+use rule::Pass;
 use rule::Said;
 use words::print;
 use words::read::digits;
@@ -72,7 +73,7 @@ pub fn agrees(
 
 // What a walk says of a row: its answer, or 100 and the refusal's number.
 fn said(n: u8, order: Order, cells: &[u16], used: u16, root: Node, row: u16) -> u64 {
-    match walking::walk(n, order, cells, used, root, row) {
+    match walking::walk(n, order, cells, used, root, Pass::EveryRow, row) {
         Said::Answer {
             answer,
             asked,
@@ -132,7 +133,8 @@ fn asked_sum(n: u8, order: Order, cells: &[u16], used: u16, root: Node, rows: us
         if rows <= row as usize {
             return sum;
         }
-        sum = with_walk(sum, walking::walk(n, order, cells, used, root, row));
+        let said = walking::walk(n, order, cells, used, root, Pass::EveryRow, row);
+        sum = with_walk(sum, said);
         row += 1;
     }
     sum

@@ -4,6 +4,7 @@
 //     b N CELLS TABLE ORDER                build into so many lent cells, with 7 in each
 //     c N ORDER USED ROOT CELL CELL ..     check
 //     w N ORDER USED NODE ROW CELL ..      walk
+//     g N ORDER USED NODE PASS ROW CELL .. walk under a pass rule's node
 //     t N ORDER USED NODE BYTES CELL ..    tabulate into so many lent bytes
 //     p TABLE                              pack the table: its nodes, its order, the nodes asking each flag, its cells
 //     q N CELLS WORKSPACE TABLE            pack into so many lent cells, with 7 in each, by so many of workspace, with 5 in each, and what these have then

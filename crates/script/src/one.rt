@@ -9,6 +9,7 @@ use rule::Done;
 use rule::Drawn;
 use rule::Node;
 use rule::Order;
+use rule::Pass;
 use rule::Said;
 use words::lent::each_is;
 use words::print;
@@ -102,10 +103,9 @@ pub fn check(text: &[u8], at: usize) {
     }
 }
 
-// w N ORDER USED NODE ROW CELL CELL ..
-pub fn walk(text: &[u8], at: usize) {
-    let of = place(text, at);
-    let row = number(text, of.next);
+// A walk with a pass rule or without: ROW CELL CELL .. from a place on
+fn walked(of: Asked, pass: Pass, text: &[u8], at: usize) {
+    let row = number(text, at);
     let mut lent = [0u16; MOST_CELLS];
     let length = cells(text, row.next, &mut lent);
     let said = walking::walk(
@@ -114,6 +114,7 @@ pub fn walk(text: &[u8], at: usize) {
         &lent[0..length],
         of.used,
         of.node,
+        pass,
         row.value,
     );
     match said {
@@ -128,6 +129,19 @@ pub fn walk(text: &[u8], at: usize) {
         }
         Said::Refused(k) => print::refused(k),
     }
+}
+
+// w N ORDER USED NODE ROW CELL CELL ..
+pub fn walk(text: &[u8], at: usize) {
+    let of = place(text, at);
+    walked(of, Pass::EveryRow, text, of.next);
+}
+
+// g N ORDER USED NODE PASS ROW CELL CELL ..
+pub fn walk_under(text: &[u8], at: usize) {
+    let of = place(text, at);
+    let pass = number(text, of.next);
+    walked(of, Pass::Rule(Node { number: pass.value }), text, pass.next);
 }
 
 // t N ORDER USED NODE BYTES CELL CELL ..

@@ -15,6 +15,7 @@ fn line(text: &[u8]) {
         b'b' => one::build(text, 2),
         b'c' => one::check(text, 2),
         b'w' => one::walk(text, 2),
+        b'g' => one::walk_under(text, 2),
         b't' => one::tabulate(text, 2),
         b'p' => pack::pack(text, 2),
         b'q' => pack::pack_lent(text, 2),

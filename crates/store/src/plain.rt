@@ -4,8 +4,10 @@ use crate::state::Store;
 use crate::state::Walked;
 use rule::Done;
 use rule::Node;
+use rule::Pass;
 ghost use Rattle.rule.specs.Answers.{doneReply, saidReply};
 ghost use Rattle.rule.specs.Calls.{Open, Tabulate, Walk};
+ghost use Rattle.rule.specs.Pass.{passOf};
 ghost use Rattle.store.specs.State.{stateOf};
 
 impl Store {
@@ -39,11 +41,12 @@ impl Store {
         }
     }
 
-    // Walk: the answer of a rule in a row, the set of the flags asked and their number; or why there is none: 1, 4, 5, 6, 7, then 9.
-    pub fn walk(self, cells: &[u16], rule: Node, row: u16) -> Walked
-        ensures { λ r. ⌜ Walk (stateOf self) (now (cells .entry)) (rule .number) row (saidReply (r .answer)) (stateOf (r .store)) ⌝ }
+    // Walk: the answer of a rule in a row that its pass rule, if it has one, allows, the set of the flags asked and their number; or why there is none: 1, 4, 5,
+    // 6, 7 for the rule, 7 for the pass rule, 9, then 14.
+    pub fn walk(self, cells: &[u16], rule: Node, pass: Pass, row: u16) -> Walked
+        ensures { λ r. ⌜ Walk (stateOf self) (now (cells .entry)) (rule .number) (passOf pass) row (saidReply (r .answer)) (stateOf (r .store)) ⌝ }
     {
-        let answer = walking::walk(self.n, self.order, cells, self.used, rule, row);
+        let answer = walking::walk(self.n, self.order, cells, self.used, rule, pass, row);
         Walked {
             store: self,
             answer,

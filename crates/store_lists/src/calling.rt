@@ -97,11 +97,12 @@ fn kind(command: u8) -> u16 {
         b'c' => 4,
         b'x' => 5,
         b't' => 6,
+        b'g' => 8,
         _ => 7,
     }
 }
 
-// k V, f I, j CODE A B, c A B C, x A I V, t A BYTES, w A ROW as the words of the call.
+// k V, f I, j CODE A B, c A B C, x A I V, t A BYTES, w A ROW, g A PASS ROW as the words of the call.
 fn asked(s: Session, text: &[u8], command: u8) -> [u16; CALL] {
     let a = given(s, text, 2);
     let b = given(s, text, a.next);
@@ -186,9 +187,9 @@ fn tabulate(s: Session, text: &[u8], cells: &mut [u16]) -> Session {
     s.counted(told.store, NONE, false)
 }
 
-// w A ROW
-fn walk(s: Session, text: &[u8], cells: &mut [u16]) -> Session {
-    let words = asked(s, text, b'w');
+// w A ROW, or g A PASS ROW, which has a pass rule
+fn walk(s: Session, text: &[u8], cells: &mut [u16], command: u8) -> Session {
+    let words = asked(s, text, command);
     let told = told_alone(s, &words, cells);
     let number = told.number;
     if number == 0 {
@@ -207,7 +208,7 @@ fn played(s: Session, text: &[u8], cells: &mut [u16], command: u8) -> Session {
     match command {
         b'o' => open(s, text, cells),
         b't' => tabulate(s, text, cells),
-        b'w' => walk(s, text, cells),
+        b'w' | b'g' => walk(s, text, cells, command),
         b'k' | b'f' | b'j' | b'c' | b'x' => make(s, text, cells, command),
         _ => {
             print::unknown();

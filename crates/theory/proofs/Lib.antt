@@ -41,4 +41,5 @@ pub mod Growth
 pub mod Restrict
 pub mod Apply
 pub mod Refused
+pub mod Pass
 pub mod Reading

@@ -1,14 +1,14 @@
 -- Rows of the refusal table that apply or pass, and the reply that follows.
 -- Assumes nothing.
-use mathlib.Core.Path.{_≡_, refl, ap, _∙_}
-use mathlib.Core.Bool.{Bool, true, false, _&&_}
+use mathlib.Core.Path.{_≡_, refl, sym, ap, _∙_}
+use mathlib.Core.Bool.{Bool, true, false, not, _&&_, true≢false}
 use mathlib.Core.List.{List, [], _∷_, _++_, map}
 use Prim.Native.Nat.{ℕ, zero, suc}
 use native.Mathlib.Omega.{arith}
-use borrow.Author.Tests.{ltb-true}
-use lib.Dec.{ltb}
+use borrow.Author.Tests.{ltb-true, eq-eqb}
+use lib.Dec.{eqb, ltb}
 use lib.ListN.{length, drop}
-use Rattle.rule.specs.Refusals.{Row, refusal}
+use Rattle.rule.specs.Refusals.{Row, firstElse, refusal}
 use Rattle.rule.specs.Reply.{Reply, accepted, refused, reply, leaves, WritesRun}
 use Rattle.theory.proofs.Tests.{and-split}
 
@@ -52,6 +52,30 @@ pub split-passed : (rows more : List Row) → numbered rows ≡ true → refusal
 split-passed [] more h e = (refl, e)
 split-passed ((true, k) ∷ rows) more h e = let p = ltb-true 0 k (and-split (ltb 0 k) (numbered rows) h .0) in absurd (omega arith)
 split-passed ((false, k) ∷ rows) more h e = split-passed rows more (and-split (ltb 0 k) (numbered rows) h .1) e
+
+-- rows that give the same number give it behind others too
+pub rows-alike : (rows more other : List Row) → refusal more ≡ refusal other → refusal (rows ++ more) ≡ refusal (rows ++ other)
+rows-alike [] more other e = e
+rows-alike (row ∷ rows) more other e = ap (firstElse (row .0) (row .1)) (rows-alike rows more other e)
+
+-- no row has this number
+abbrev pub others : ℕ → List Row → Bool
+others k [] = true
+others k (row ∷ rows) = not (eqb (row .1) k) && others k rows
+
+-- where a row's number is given that stands behind others, none of which has it, these pass and it applies
+pub last-given : (k : ℕ) (rows : List Row) (b : Bool) → others (suc k) rows ≡ true → refusal (rows ++ ((b, suc k) ∷ [])) ≡ suc k → Passed rows × (b ≡ true)
+last-given k [] true h e = (tt, refl)
+last-given k [] false h e = absurd (omega arith)
+last-given k ((true, j) ∷ rows) b h e =
+    absurd (true≢false (sym (and-split (not (eqb j (suc k))) (others (suc k) rows) h .0) ∙ ap not (eq-eqb j (suc k) e)))
+last-given k ((false, j) ∷ rows) b h e =
+    let (p, q) = last-given k rows b (and-split (not (eqb j (suc k))) (others (suc k) rows) h .1) e in ((refl, p), q)
+
+-- where some rows pass and the next applies, its number is given
+pub next-applies : (k : ℕ) (rows more : List Row) → Passed rows → refusal (rows ++ ((true, k) ∷ more)) ≡ k
+next-applies k [] more p = refl
+next-applies k (row ∷ rows) more (e, p) = rw e (next-applies k rows more p)
 
 -- the reply under a refusal
 pub refused-reply : (k : ℕ) (values : List ℕ) → (k ≡ 0 → ⊥) → refused k (map (λ v. 0) values) ≡ reply k values

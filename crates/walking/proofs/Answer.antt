@@ -1,19 +1,22 @@
 -- The answers of walk and tabulate, from the tests that led to them.
 -- Assumes nothing.
 use mathlib.Core.Path.{_≡_, refl, sym, ap, _∙_}
-use mathlib.Core.List.{List, [], _∷_, _++_}
+use mathlib.Core.List.{List, [], _∷_, _++_, map}
+use mathlib.Core.Option.{Option, none, some}
 use Prim.Native.Nat.{ℕ, zero, suc, _+_, _^_, _≤_, _<_}
 use native.Mathlib.Omega.{arith}
-use borrow.Author.Tests.{lt-ltb, le-ltb, le-leb, lt-leb, eq-eqb, ne-eqb}
+use borrow.Author.Tests.{lt-ltb, le-ltb, eq-eqb, ne-eqb}
 use lib.ListN.{length, take}
 use lib.Pow.{pow-pos}
 use Rattle.rule.specs.Table.{fitLength}
 use Rattle.rule.specs.Order.{flags}
 use Rattle.rule.specs.Sets.{flagSet}
 use Rattle.rule.specs.Walk.{walk, flagsAsked, walkValues, tableOf}
-use Rattle.rule.specs.Refusals.{refusal, node, rowArgument, tabulateRows}
+use Rattle.rule.specs.Pass.{passNodes}
+use Rattle.rule.specs.Refusals.{Row, refusal, node, rowRows, walkRows, tabulateRows}
 use Rattle.rule.specs.Reply.{accepted, refused, reply, leaves}
-use Rattle.theory.proofs.Refused.{refused-more, refused-reply}
+use Rattle.theory.proofs.Refused.{refused-more, passed-more, refused-reply}
+use Rattle.theory.proofs.Pass.{pass-yes}
 use Rattle.theory.proofs.Sound.{sound-shape}
 use Rattle.theory.proofs.Orders.{fit-order-is}
 use Rattle.theory.proofs.Walks.{smaller, walk-lt}
@@ -23,6 +26,7 @@ use Rattle.checking.proofs.Parts.{fit-room, sound-room}
 use Rattle.tabulating.specs.Fill.{Filling, filled}
 use Rattle.tabulating.proofs.Halves.{filled-all}
 use Rattle.walking.specs.Walk.{Walkable}
+use Rattle.walking.specs.Pass.{passNode}
 use Rattle.rule.specs.Calls.{Walks, Tabulates}
 
 -- ---- cells that were taken
@@ -46,25 +50,54 @@ module _ {n used : ℕ} {o c : List ℕ} (t : Taken n o c used) where
 -- ---- walk
 
 module _ (n : ℕ) (o c : List ℕ) (used m row : ℕ) where
-  pub walk-refused : {k : ℕ} → k ≡ refusal (cellRows n o c used) → (k ≡ 0 → ⊥) → Walks n o c used m row (refused k (0 ∷ 0 ∷ 0 ∷ []))
-  walk-refused {k} e d =
-      record {
-        answer = refused-reply k (walkValues c m row) d
-            ∙ ap (λ i. reply i (walkValues c m row)) (e ∙ refused-more (cellRows n o c used) (node used m ∷ rowArgument n row ∷ []) (λ f. d (e ∙ f)));
-        bytes-are = refl;
-      }
+  -- the rows behind those of the cells
+  abbrev argumentRows : Option ℕ → List Row
+  argumentRows pass = node used m ∷ (map (node used) (passNodes pass) ++ rowRows n c pass row)
 
-  module _ (t : Taken n o c used) where
-    pub walk-far : used + 1 < m → Walks n o c used m row (refused 7 (0 ∷ 0 ∷ 0 ∷ []))
-    walk-far h = record { answer = rw (le-ltb _ _ (t .few), t .ordered, t .lent, t .is-sound, lt-ltb (used + 1) m h); bytes-are = refl }
+  -- refused under a number
+  refused-by : (pass : Option ℕ) {k : ℕ} → k ≡ refusal (walkRows n o c used m pass row) → (k ≡ 0 → ⊥) → Walks n o c used m pass row (refused k (0 ∷ 0 ∷ 0 ∷ []))
+  refused-by pass {k} e d =
+      record { answer = refused-reply k (walkValues c m row) d ∙ ap (λ i. reply i (walkValues c m row)) e; bytes-are = refl }
 
-    pub walk-no-row : m ≤ used + 1 → 2 ^ n ≤ row → Walks n o c used m row (refused 9 (0 ∷ 0 ∷ 0 ∷ []))
-    walk-no-row h l = record { answer = rw (le-ltb _ _ (t .few), t .ordered, t .lent, t .is-sound, le-ltb (used + 1) m h, le-leb (2 ^ n) row l); bytes-are = refl }
+  pub walk-refused : (pass : Option ℕ) {k : ℕ} → k ≡ refusal (cellRows n o c used) → (k ≡ 0 → ⊥)
+      → Walks n o c used m pass row (refused k (0 ∷ 0 ∷ 0 ∷ []))
+  walk-refused pass e d = refused-by pass (e ∙ refused-more (cellRows n o c used) (argumentRows pass) (λ f. d (e ∙ f))) d
 
-    pub walk-says : m ≤ used + 1 → row < 2 ^ n → {x set count : ℕ} → x ≡ walk c m row → set ≡ flagSet (flagsAsked c m row)
-        → count ≡ length (flagsAsked c m row) → Walks n o c used m row (accepted (x ∷ set ∷ count ∷ []))
-    walk-says h l e f g =
-        record { answer = rw (le-ltb _ _ (t .few), t .ordered, t .lent, t .is-sound, le-ltb (used + 1) m h, lt-leb (2 ^ n) row l, e, f, g); bytes-are = refl }
+  -- the pass rule's rows are those of the node that is asked
+  by-node : (pass : Option ℕ) → refusal (walkRows n o c used m (some (passNode pass)) row) ≡ refusal (walkRows n o c used m pass row)
+  by-node none = pass-yes n used m row o c
+  by-node (some p) = refl
+
+  module _ (t : Taken n o c used) (pass : Option ℕ) {p : ℕ} (e : p ≡ passNode pass) where
+    own : refusal (argumentRows (some p)) ≡ refusal (walkRows n o c used m pass row)
+    own =
+        passed-more (cellRows n o c used) (argumentRows (some p)) refl (rw (le-ltb _ _ (t .few), t .ordered, t .lent, t .is-sound))
+        ∙ ap (λ (i : ℕ). refusal (walkRows n o c used m (some i) row)) e
+        ∙ by-node pass
+
+    pub walk-far : used + 1 < m → Walks n o c used m pass row (refused 7 (0 ∷ 0 ∷ 0 ∷ []))
+    walk-far h = let z : 7 ≡ refusal (argumentRows (some p)) = rw (lt-ltb (used + 1) m h) in refused-by pass (z ∙ own) (omega arith)
+
+    module _ (h : m ≤ used + 1) where
+      pub pass-far : used + 1 < p → Walks n o c used m pass row (refused 7 (0 ∷ 0 ∷ 0 ∷ []))
+      pass-far g =
+          let z : 7 ≡ refusal (argumentRows (some p)) = rw (le-ltb (used + 1) m h, lt-ltb (used + 1) p g) in refused-by pass (z ∙ own) (omega arith)
+
+      module _ (g : p ≤ used + 1) where
+        row-own : refusal (rowRows n c (some p) row) ≡ refusal (walkRows n o c used m pass row)
+        row-own =
+            let z : refusal (rowRows n c (some p) row) ≡ refusal (argumentRows (some p)) =
+            rw (le-ltb (used + 1) m h, le-ltb (used + 1) p g) in
+            z ∙ own
+
+        pub row-refused : {k : ℕ} → k ≡ refusal (rowRows n c (some p) row) → (k ≡ 0 → ⊥)
+            → Walks n o c used m pass row (refused k (0 ∷ 0 ∷ 0 ∷ []))
+        row-refused f d = refused-by pass (f ∙ row-own) d
+
+        pub walk-says : {k : ℕ} → k ≡ refusal (rowRows n c (some p) row) → k ≡ 0 → {x set count : ℕ}
+            → x ≡ walk c m row → set ≡ flagSet (flagsAsked c m row) → count ≡ length (flagsAsked c m row)
+            → Walks n o c used m pass row (accepted (x ∷ set ∷ count ∷ []))
+        walk-says f z ex es ec = record { answer = rw (sym row-own ∙ sym f ∙ z, ex, es, ec); bytes-are = refl }
 
 -- ---- tabulate
 

@@ -1,14 +1,19 @@
+use crate::pass::pass_node;
+use crate::pass::row_refusal;
 use crate::steps::descend;
 use rule::Done;
 use rule::Node;
 use rule::Order;
+use rule::Pass;
 use rule::Said;
 ghost use Rattle.rule.specs.Answers.{doneReply, saidReply};
 ghost use Rattle.rule.specs.Calls.{Walks, Tabulates};
+ghost use Rattle.rule.specs.Pass.{passOf};
 
-// Walk: the answer of a node in a row, the set of the flags asked and their number; or why there is none: 1, 4, 5, 6, 7, then 9.
-pub fn walk(n: u8, order: Order, cells: &[u16], used: u16, node: Node, row: u16) -> Said
-    ensures { λ r. ⌜ Walks n (order .places) (now (cells .entry)) used (node .number) row (saidReply r) ⌝ }
+// Walk: the answer of a node in a row that its pass rule, if it has one, allows, the set of the flags asked and their number; or why there is none: 1, 4, 5, 6,
+// 7 for the node, 7 for the pass rule's, 9, then 14.
+pub fn walk(n: u8, order: Order, cells: &[u16], used: u16, node: Node, pass: Pass, row: u16) -> Said
+    ensures { λ r. ⌜ Walks n (order .places) (now (cells .entry)) used (node .number) (passOf pass) row (saidReply r) ⌝ }
 {
     let mut index = [0u16; record_index::INDEX];
     let refused = checking::records_refusal(n, order, cells, used, &mut index);
@@ -16,11 +21,17 @@ pub fn walk(n: u8, order: Order, cells: &[u16], used: u16, node: Node, row: u16)
         return Said::Refused(refused);
     }
     let from = node.number;
-    if used + 1 < from {
+    let passing = pass_node(pass);
+    let last = used + 1;
+    if last < from {
         return Said::Refused(7);
     }
-    if arguments::row_count(n) <= row as usize {
-        return Said::Refused(9);
+    if last < passing {
+        return Said::Refused(7);
+    }
+    let refused = row_refusal(n, cells, used, passing, row);
+    if refused != 0 {
+        return Said::Refused(refused);
     }
     let descent = descend(cells, used, from, row);
     Said::Answer {

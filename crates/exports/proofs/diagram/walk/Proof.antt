@@ -1,9 +1,9 @@
--- `exports::diagram::engine_walk` meets its contract: the number is that of walk's own reply.
+-- `exports::diagram::walk` meets its contract: the number is that of walk's own reply.
 -- Assumes nothing.
 use borrow.Author.Needs.{needs}
 use Rattle.rule.specs.Answers.{saidReply}
-use Rattle.exports.proofs.diagram.engine_walk.Statement.{statement}
-use Rattle.exports.proofs.diagram.engine_walk.Tie as tie
+use Rattle.exports.proofs.diagram.walk.Statement.{statement}
+use Rattle.exports.proofs.diagram.walk.Tie as tie
 
 returns : tie.Need-returns
 returns c =
@@ -17,7 +17,7 @@ returns-2 c =
     let call = told .before .before in
     (saidReply (call .walk .result), call .walk .ensures, rw (told .k .given .1) (c .answer2 .ensures))
 
-pub engine-walk-spec : {M : Type 1} → statement M
-engine-walk-spec =
+pub walk-spec : {M : Type 1} → statement M
+walk-spec =
     tie.close
     (tie.spec (λ c κs. search needs) (λ c. search needs) (λ c κs. search needs) (λ c. search needs) (λ c κs. search needs) returns returns-2)
