@@ -19,7 +19,7 @@ use Rattle.rule.specs.Reply.{Reply, numberOf, Accepted, leaves}
 use Rattle.rule.specs.Calls.{State, Tabulate, Walk}
 use Rattle.rule.specs.Results.{tabulating, walking}
 use Rattle.rule.specs.History.{Asked, open-call, constant-call, making-call, query-call, Call, MeetsBy, OpensBy, Book, inBook}
-use Rattle.rule.specs.Demands.{Gives, RowPassed, RuleKept, PassedBy, Passes, Demand3}
+use Rattle.rule.specs.Demands.{Gives, PassRuleSays, RuleKept, ObeysBy, Obeys, Demand3}
 use Rattle.theory.proofs.Tests.{and-split}
 use Rattle.theory.proofs.Walks.{length-table, table-row}
 use Rattle.theory.proofs.Refused.{passed}
@@ -96,8 +96,8 @@ module _ {s : State} {c : List ℕ} {b : Book} (a : After s c b) (m : ℕ) (t : 
         sym (ap (λ (u : List ℕ). getD u row 0) same) ∙ e,
       )
 
-  row-passed : (k row : ℕ) (r : Reply) (s′ : State) → Walk s c k (some m) row r s′ → RowPassed t row r
-  row-passed k row r s′ x = (allowed k row r s′ x, forbidden k row r s′ x)
+  as-pass-rule : (k row : ℕ) (r : Reply) (s′ : State) → Walk s c k (some m) row r s′ → PassRuleSays t row r
+  as-pass-rule k row r s′ x = (allowed k row r s′ x, forbidden k row r s′ x)
 
   there : (bytes after : List ℕ) (r : Reply) (s′ : State) → Tabulate s c m bytes r s′ after → (numberOf r ≢ 6) × (numberOf r ≢ 7)
   there bytes after r s′ x =
@@ -108,27 +108,27 @@ module _ {s : State} {c : List ℕ} {b : Book} (a : After s c b) (m : ℕ) (t : 
 rule-kept : {s : State} {c : List ℕ} {b : Book} → After s c b → (m : ℕ) (t : List ℕ) → inBook b m ≡ some t → RuleKept s c m t
 rule-kept a m t p =
     record {
-      answers = record { tabulated = tabulated a m t p; walked = walked a m t p; passed = row-passed a m t p; there = there a m t p };
+      answers = record { tabulated = tabulated a m t p; walked = walked a m t p; as-pass-rule = as-pass-rule a m t p; there = there a m t p };
       brought-out = λ bytes after r s′ x h n nodes root order cells w d y q z g.
           packed-well (rw (tabulated a m t p bytes after r s′ x h) at z) g;
     }
 
 -- ---- the list's own walks
 
-opens-passed : (b : Book) (q : Asked) (r : Reply) → OpensBy q r → PassedBy b q r
-opens-passed b (open-call given) r h = tt
-opens-passed b (constant-call v) r h = absurd h
-opens-passed b (making-call x) r h = absurd h
-opens-passed b (query-call q) r h = absurd h
+opens-obey : (b : Book) (q : Asked) (r : Reply) → OpensBy q r → ObeysBy b q r
+opens-obey b (open-call given) r h = tt
+opens-obey b (constant-call v) r h = absurd h
+opens-obey b (making-call x) r h = absurd h
+opens-obey b (query-call q) r h = absurd h
 
-call-passed : {s : State} {c : List ℕ} {b : Book} (q : Asked) (x : Call) → MeetsBy q s c x → After s c b → PassedBy b q (x .answer)
-call-passed (open-call given) x y a = tt
-call-passed (constant-call v) x y a = tt
-call-passed (making-call m) x y a = tt
-call-passed (query-call (tabulating m)) x y a = tt
-call-passed (query-call (walking m none row)) x y a = tt
-call-passed (query-call (walking m (some p) row)) x (y, _) a =
-    λ t e. row-passed a p t e m row (x .answer) (x .state) (record { state = y .state; asks = record { answer = y .asks .answer; bytes-are = refl } })
+call-obeys : {s : State} {c : List ℕ} {b : Book} (q : Asked) (x : Call) → MeetsBy q s c x → After s c b → ObeysBy b q (x .answer)
+call-obeys (open-call given) x y a = tt
+call-obeys (constant-call v) x y a = tt
+call-obeys (making-call m) x y a = tt
+call-obeys (query-call (tabulating m)) x y a = tt
+call-obeys (query-call (walking m none row)) x y a = tt
+call-obeys (query-call (walking m (some p) row)) x (y, _) a =
+    λ t e. as-pass-rule a p t e m row (x .answer) (x .state) (record { state = y .state; asks = record { answer = y .asks .answer; bytes-are = refl } })
 
 -- ---- the list
 
@@ -137,7 +137,7 @@ demand3 first s cells c b xs ys h =
     record {
       kept = rule-kept (steps-from-open first s cells c b xs ys h);
       rewritten = agrees-from-open first s cells c b xs ys h;
-      passes = throughout-from-open Passes (λ s c b x y h. opens-passed b (x .asked) (x .answer) h) (λ s c b x y a. call-passed (x .asked) x y a) first s cells c b xs
+      obeyed = throughout-from-open Obeys (λ s c b x y h. opens-obey b (x .asked) (x .answer) h) (λ s c b x y a. call-obeys (x .asked) x y a) first s cells c b xs
           ys h;
       equally = equally;
     }

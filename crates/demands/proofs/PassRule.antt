@@ -19,7 +19,7 @@ use Rattle.rule.specs.Demands.{PassRule}
 use Rattle.theory.proofs.Cofactor.{row-lt}
 use Rattle.theory.proofs.Sound.{sound-shape}
 use Rattle.theory.proofs.Walks.{smaller, fit-table}
-use Rattle.theory.proofs.Refused.{Passed, passed, none-applies, refused-more, passed-more, last-given, next-applies}
+use Rattle.theory.proofs.Refused.{Passed, passed, none-applies, refused-more, passed-more, last-given, behind-passed}
 use Rattle.theory.proofs.Pass.{pass-yes}
 use Rattle.demands.proofs.Stands.{accepted-zero, zero-accepted, number-of}
 
@@ -67,7 +67,7 @@ module _ (n used m p row : ℕ) (order c : List ℕ) where
   there (_, (_, (_, (_, (_, (g, _)))))) = ltb-false (used + 1) p g
 
   far : Passed ruleRows → used + 1 < p → refusal passRows ≡ 7
-  far h g = rw (lt-ltb (used + 1) p g) (next-applies 7 ruleRows (rowRows n c (some p) row) h)
+  far h g = behind-passed ruleRows (node used p ∷ rowRows n c (some p) row) h ∙ rw (lt-ltb (used + 1) p g)
 
   module _ {q r : Reply} (x : Walks n order c used m none row q) (y : Walks n order c used m (some p) row r) where
     abbrev values : List ℕ
@@ -96,7 +96,7 @@ module _ (n used m p row : ℕ) (order c : List ℕ) where
     is-forbidden k = let (h, e) = forbidden (sym under ∙ k) in (taken h, there h, e)
 
     forbids : Accepted q × (p ≤ used + 1) × (getD (tableOf n c p) row 0 ≡ 0) → numberOf r ≡ 14
-    forbids (a, g, e) = under ∙ rw (eq-eqb (getD (tableOf n c p) row 0) 0 e) (next-applies 14 before [] (together (alone-zero a) g))
+    forbids (a, g, e) = under ∙ behind-passed before (passArgument n c (some p) row ∷ []) (together (alone-zero a) g) ∙ rw (eq-eqb (getD (tableOf n c p) row 0) 0 e)
 
     is-allowed : Accepted r → Accepted q × (p ≤ used + 1) × (getD (tableOf n c p) row 0 ≡ 1)
     is-allowed a = let (h, e) = allowed (under-zero a) in (taken h, there h, e)
@@ -127,7 +127,7 @@ module _ (n used m p row : ℕ) (order c : List ℕ) where
     nine k g =
         let ((few, (o, (f, (s, (h, _))))), l) = no-row k in
         let z : refusal passRows ≡ 9 =
-        rw l (next-applies 9 (ruleRows ++ (node used p ∷ [])) (passArgument n c (some p) row ∷ []) (few, (o, (f, (s, (h, (le-ltb (used + 1) p g, tt))))))) in
+        behind-passed (ruleRows ++ (node used p ∷ [])) (rowRows n c (some p) row) (few, (o, (f, (s, (h, (le-ltb (used + 1) p g, tt)))))) ∙ rw l in
         alike (z ∙ sym k ∙ alone)
 
     seven : numberOf q ≡ 0 → used + 1 < p → numberOf r ≡ 7

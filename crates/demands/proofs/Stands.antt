@@ -74,7 +74,7 @@ module _ (n : ℕ) (order c : List ℕ) (used root : ℕ) (few : n ≤ 10) (o : 
         drawn = record { ordered = p; reduced = q; table = refl };
         tabulates = λ bytes after r l x.
             let z = tabulated bytes l in (
-              subst Accepted (sym (x .answer ∙ ap (λ (k : ℕ). reply k []) z)) tt,
+              zero-accepted (refusal (tabulateRows n order c used root bytes)) [] (x .answer) z,
               x .bytes-are ∙ ap (λ (k : ℕ). leaves k (tableOf n c root) bytes) z,
             );
       }

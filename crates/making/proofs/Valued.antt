@@ -9,9 +9,8 @@ use lib.Dec.{ltb}
 use Rattle.rule.specs.Refusals.{refusal, valueArgument, constantRows}
 use Rattle.rule.specs.Reply.{accepted, refused, reply}
 use Rattle.rule.specs.Calls.{State, Constant}
-use Rattle.theory.proofs.Refused.{row-passed, refused-reply}
+use Rattle.theory.proofs.Refused.{row-passed, split-passed, refused-reply}
 use Rattle.checking.proofs.Refused.{cellRows}
-use Rattle.refusing.proofs.Rows.{rest}
 
 -- a value that is no 0
 other : (v : ℕ) → v ≤ 1 → (v ≡ 0 → ⊥) → 1 ≡ v
@@ -34,5 +33,5 @@ module _ (s : State) (c : List ℕ) (v : ℕ) {k : ℕ} (e : k ≡ refusal (cons
 
     pub is-one : (v ≡ 0 → ⊥) → 1 ≡ v
     is-one d =
-        let p = rest (cellRows (s .n) (s .places) c (s .used)) (valueArgument v ∷ []) refl (sym e ∙ z) in
+        let (_, p) = split-passed (cellRows (s .n) (s .places) c (s .used)) (valueArgument v ∷ []) refl (sym e ∙ z) in
         other v (ltb-false 1 v (row-passed (ltb 1 v) 8 [] p .0)) d

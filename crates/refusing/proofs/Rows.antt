@@ -1,16 +1,14 @@
 -- Rows tested one part after the other, and what is known where none applies.
 -- Assumes nothing.
-use mathlib.Core.Path.{_≡_, refl, sym, ap, _∙_}
+use mathlib.Core.Path.{_≡_, refl, sym, _∙_}
 use mathlib.Core.Bool.{Bool, true, false}
 use mathlib.Core.List.{List, [], _∷_, _++_}
 use Prim.Native.Nat.{ℕ, _+_, _≤_}
 use native.Mathlib.Omega.{arith}
-use borrow.Author.Tests.{ltb-true}
 use lib.Dec.{ltb}
 use Rattle.rule.specs.Results.{Making}
 use Rattle.rule.specs.Refusals.{Row, firstElse, refusal, node, ownRows}
-use Rattle.theory.proofs.Tests.{and-split}
-use Rattle.theory.proofs.Refused.{numbered, refused-more, passed-more}
+use Rattle.theory.proofs.Refused.{numbered, refused-more, passed-more, split-passed, rows-alike}
 use Rattle.checking.proofs.Refused.{cellRows, Taken, rows-passed}
 use Rattle.checking.proofs.Parts.{fit-room, sound-room}
 use Rattle.record_index.specs.Index.{Indexed}
@@ -39,10 +37,6 @@ again : (b : Bool) (k : ℕ) → firstElse b 7 (firstElse b 7 k) ≡ firstElse b
 again true k = refl
 again false k = refl
 
-behind : (rows xs ys : List Row) → refusal xs ≡ refusal ys → refusal (rows ++ xs) ≡ refusal (rows ++ ys)
-behind [] xs ys e = e
-behind ((b, k) ∷ rows) xs ys e = ap (firstElse b k) (behind rows xs ys e)
-
 module _ (n : ℕ) (o c : List ℕ) (used : ℕ) {k : ℕ} {index : List ℕ} where
   -- the rows of the cells, of no node yet
   pub cells-tested : (k ≡ refusal (cellRows n o c used)) × (k ≡ 0 → Indexed c used index) → Tested (nodeRows n o c used []) c used k index
@@ -52,7 +46,7 @@ module _ (n : ℕ) (o c : List ℕ) (used : ℕ) {k : ℕ} {index : List ℕ} wh
   two-nodes f g t =
       record {
         number = t .number
-            ∙ behind (cellRows n o c used ++ (node used f ∷ [])) (node used g ∷ node used g ∷ []) (node used g ∷ []) (again (ltb (used + 1) g) 0);
+            ∙ rows-alike (cellRows n o c used ++ (node used f ∷ [])) (node used g ∷ node used g ∷ []) (node used g ∷ []) (again (ltb (used + 1) g) 0);
         indexed = t .indexed;
       }
 
@@ -61,19 +55,11 @@ module _ (n : ℕ) (o c : List ℕ) (used : ℕ) {k : ℕ} {index : List ℕ} wh
       let b = ltb (used + 1) m in
       record {
         number = t .number
-            ∙ behind (cellRows n o c used) (node used m ∷ node used m ∷ node used m ∷ []) (node used m ∷ []) (again b (firstElse b 7 0) ∙ again b 0);
+            ∙ rows-alike (cellRows n o c used) (node used m ∷ node used m ∷ node used m ∷ []) (node used m ∷ []) (again b (firstElse b 7 0) ∙ again b 0);
         indexed = t .indexed;
       }
 
 -- ---- where no row applies
-
-front : (rows more : List Row) → numbered rows ≡ true → refusal (rows ++ more) ≡ 0 → refusal rows ≡ 0
-front [] more h e = refl
-front ((true, k) ∷ rows) more h e = let p = ltb-true 0 k (and-split (ltb 0 k) (numbered rows) h .0) in absurd (omega arith)
-front ((false, k) ∷ rows) more h e = front rows more (and-split (ltb 0 k) (numbered rows) h .1) e
-
-pub rest : (rows more : List Row) → numbered rows ≡ true → refusal (rows ++ more) ≡ 0 → refusal more ≡ 0
-rest rows more h e = passed-more rows more h (front rows more h e) ∙ e
 
 module _ (n : ℕ) (o c : List ℕ) (used : ℕ) where
   -- no more records than cells can hold
@@ -82,7 +68,7 @@ module _ (n : ℕ) (o c : List ℕ) (used : ℕ) where
 
   module _ (x : Making) {k : ℕ} {index : List ℕ} (t : Tested (testedRows n o c used x) c used k index) (z : k ≡ 0) where
     pub taken : Taken n o c used
-    taken = rows-passed n o c used refl (front (cellRows n o c used) (ownRows n used x) refl (sym (t .number) ∙ z))
+    taken = rows-passed n o c used refl (split-passed (cellRows n o c used) (ownRows n used x) refl (sym (t .number) ∙ z) .0)
 
     pub own-pass : refusal (ownRows n used x) ≡ 0
-    own-pass = rest (cellRows n o c used) (ownRows n used x) refl (sym (t .number) ∙ z)
+    own-pass = split-passed (cellRows n o c used) (ownRows n used x) refl (sym (t .number) ∙ z) .1

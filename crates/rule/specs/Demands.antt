@@ -118,16 +118,16 @@ pub record Demand2 : Type 0 where
 -- ---- demand 3
 
 -- what the table of a walk's pass rule has in its row, by the walk's answer (request 5): 1 where it is accepted, 0 where it is refused under 14
-abbrev pub RowPassed : List ℕ → ℕ → Reply → Type 0
-RowPassed t row r = (Accepted r → getD t row 0 ≡ 1) × (numberOf r ≡ 14 → (row < length t) × (getD t row 0 ≡ 0))
+abbrev pub PassRuleSays : List ℕ → ℕ → Reply → Type 0
+PassRuleSays t row r = (Accepted r → getD t row 0 ≡ 1) × (numberOf r ≡ 14 → (row < length t) × (getD t row 0 ≡ 0))
 
 -- "each rule in the scope paper's plain book of these calls answers, row by row, what the book has, wherever tabulating or walking it is accepted" (a walk's
 -- answer is the first value that it hands back, with a pass rule or without), and "tabulating a rule in the book gives neither 6 nor 7". Where a walk, from
--- whichever node, has it for its pass rule, the book has in the walk's row what `RowPassed` says
+-- whichever node, has it for its pass rule, the book has in the walk's row what `PassRuleSays` says
 pub record AnswersAs (s : State) (c : List ℕ) (m : ℕ) (t : List ℕ) : Type 0 where
   pub tabulated : (bytes after : List ℕ) (r : Reply) (s′ : State) → Tabulate s c m bytes r s′ after → Accepted r → after ≡ t
   pub walked : (pass : Option ℕ) (row a : ℕ) (more : List ℕ) (r : Reply) (s′ : State) → Walk s c m pass row r s′ → Gives r (a ∷ more) → a ≡ getD t row 0
-  pub passed : (k row : ℕ) (r : Reply) (s′ : State) → Walk s c k (some m) row r s′ → RowPassed t row r
+  pub as-pass-rule : (k row : ℕ) (r : Reply) (s′ : State) → Walk s c k (some m) row r s′ → PassRuleSays t row r
   pub there : (bytes after : List ℕ) (r : Reply) (s′ : State) → Tabulate s c m bytes r s′ after → (numberOf r ≢ 6) × (numberOf r ≢ 7)
 
 -- "its packed diagram tabulates to that same table; the node count handed back is the number of its records, and every other order of the flags draws
@@ -152,22 +152,22 @@ pub record RuleKept (s : State) (c : List ℕ) (m : ℕ) (t : List ℕ) : Type 0
 abbrev pub Agrees : Book → Fed → Type 0
 Agrees b e = (m : ℕ) (t u : List ℕ) → inBook b m ≡ some t → inBook (enter b e) m ≡ some u → (Opens e → ⊥) → t ≡ u
 
--- of a walk under a pass rule that is in the book (request 5): the book has in the walk's row what `RowPassed` says
-abbrev pub QueryPassed : Book → Query → Reply → Type 0
-QueryPassed b (tabulating m) r = Unit {0}
-QueryPassed b (walking m none row) r = Unit {0}
-QueryPassed b (walking m (some p) row) r = (t : List ℕ) → inBook b p ≡ some t → RowPassed t row r
+-- of a walk under a pass rule that is in the book (request 5): the book has in the walk's row what `PassRuleSays` says
+abbrev pub QueryObeys : Book → Query → Reply → Type 0
+QueryObeys b (tabulating m) r = Unit {0}
+QueryObeys b (walking m none row) r = Unit {0}
+QueryObeys b (walking m (some p) row) r = (t : List ℕ) → inBook b p ≡ some t → PassRuleSays t row r
 
 -- of any other call nothing is said
-abbrev pub PassedBy : Book → Asked → Reply → Type 0
-PassedBy b (open-call given) r = Unit {0}
-PassedBy b (constant-call v) r = Unit {0}
-PassedBy b (making-call x) r = Unit {0}
-PassedBy b (query-call q) r = QueryPassed b q r
+abbrev pub ObeysBy : Book → Asked → Reply → Type 0
+ObeysBy b (open-call given) r = Unit {0}
+ObeysBy b (constant-call v) r = Unit {0}
+ObeysBy b (making-call x) r = Unit {0}
+ObeysBy b (query-call q) r = QueryObeys b q r
 
 -- so at call e
-abbrev pub Passes : Book → Fed → Type 0
-Passes b e = PassedBy b (e .asked) (e .answer)
+abbrev pub Obeys : Book → Fed → Type 0
+Obeys b e = ObeysBy b (e .asked) (e .answer)
 
 -- what is said of a call and the book before it holds at every call of a list, as the book is fed one after the other
 abbrev pub Throughout : (Book → Fed → Type 0) → Book → List Fed → Type 0
@@ -188,7 +188,7 @@ EquallyMany n t =
 pub record AfterList (s : State) (c : List ℕ) (b : Book) (es : List Fed) : Type 0 where
   pub kept : (m : ℕ) (t : List ℕ) → inBook (bookOf b es) m ≡ some t → RuleKept s c m t
   pub rewritten : Throughout Agrees b es
-  pub passes : Throughout Passes b es
+  pub obeyed : Throughout Obeys b es
   pub equally : (n : ℕ) (t : List ℕ) → EquallyMany n t
 
 -- Demand 3: one claim about any list of calls that begins with an accepted open, from any state, any cells and any book

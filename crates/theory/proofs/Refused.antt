@@ -43,10 +43,12 @@ refused-more ((true, k) ∷ rows) more d = refl
 refused-more ((false, k) ∷ rows) more d = refused-more rows more d
 
 -- rows that give no number leave it to those after them
+pub behind-passed : (rows more : List Row) → Passed rows → refusal (rows ++ more) ≡ refusal more
+behind-passed [] more p = refl
+behind-passed (row ∷ rows) more (e, p) = rw e (behind-passed rows more p)
+
 pub passed-more : (rows more : List Row) → numbered rows ≡ true → refusal rows ≡ 0 → refusal more ≡ refusal (rows ++ more)
-passed-more [] more h e = refl
-passed-more ((true, k) ∷ rows) more h e = let p = ltb-true 0 k (and-split (ltb 0 k) (numbered rows) h .0) in absurd (omega arith)
-passed-more ((false, k) ∷ rows) more h e = passed-more rows more (and-split (ltb 0 k) (numbered rows) h .1) e
+passed-more rows more h e = sym (behind-passed rows more (passed rows h e))
 
 pub split-passed : (rows more : List Row) → numbered rows ≡ true → refusal (rows ++ more) ≡ 0 → (refusal rows ≡ 0) × (refusal more ≡ 0)
 split-passed [] more h e = (refl, e)
@@ -71,11 +73,6 @@ last-given k ((true, j) ∷ rows) b h e =
     absurd (true≢false (sym (and-split (not (eqb j (suc k))) (others (suc k) rows) h .0) ∙ ap not (eq-eqb j (suc k) e)))
 last-given k ((false, j) ∷ rows) b h e =
     let (p, q) = last-given k rows b (and-split (not (eqb j (suc k))) (others (suc k) rows) h .1) e in ((refl, p), q)
-
--- where some rows pass and the next applies, its number is given
-pub next-applies : (k : ℕ) (rows more : List Row) → Passed rows → refusal (rows ++ ((true, k) ∷ more)) ≡ k
-next-applies k [] more p = refl
-next-applies k (row ∷ rows) more (e, p) = rw e (next-applies k rows more p)
 
 -- the reply under a refusal
 pub refused-reply : (k : ℕ) (values : List ℕ) → (k ≡ 0 → ⊥) → refused k (map (λ v. 0) values) ≡ reply k values

@@ -51,8 +51,8 @@ module _ {n used : ℕ} {o c : List ℕ} (t : Taken n o c used) where
 
 module _ (n : ℕ) (o c : List ℕ) (used m row : ℕ) where
   -- the rows behind those of the cells
-  abbrev argumentRows : Option ℕ → List Row
-  argumentRows pass = node used m ∷ (map (node used) (passNodes pass) ++ rowRows n c pass row)
+  abbrev behindCells : Option ℕ → List Row
+  behindCells pass = node used m ∷ (map (node used) (passNodes pass) ++ rowRows n c pass row)
 
   -- refused under a number
   refused-by : (pass : Option ℕ) {k : ℕ} → k ≡ refusal (walkRows n o c used m pass row) → (k ≡ 0 → ⊥) → Walks n o c used m pass row (refused k (0 ∷ 0 ∷ 0 ∷ []))
@@ -61,7 +61,7 @@ module _ (n : ℕ) (o c : List ℕ) (used m row : ℕ) where
 
   pub walk-refused : (pass : Option ℕ) {k : ℕ} → k ≡ refusal (cellRows n o c used) → (k ≡ 0 → ⊥)
       → Walks n o c used m pass row (refused k (0 ∷ 0 ∷ 0 ∷ []))
-  walk-refused pass e d = refused-by pass (e ∙ refused-more (cellRows n o c used) (argumentRows pass) (λ f. d (e ∙ f))) d
+  walk-refused pass e d = refused-by pass (e ∙ refused-more (cellRows n o c used) (behindCells pass) (λ f. d (e ∙ f))) d
 
   -- the pass rule's rows are those of the node that is asked
   by-node : (pass : Option ℕ) → refusal (walkRows n o c used m (some (passNode pass)) row) ≡ refusal (walkRows n o c used m pass row)
@@ -69,24 +69,24 @@ module _ (n : ℕ) (o c : List ℕ) (used m row : ℕ) where
   by-node (some p) = refl
 
   module _ (t : Taken n o c used) (pass : Option ℕ) {p : ℕ} (e : p ≡ passNode pass) where
-    own : refusal (argumentRows (some p)) ≡ refusal (walkRows n o c used m pass row)
+    own : refusal (behindCells (some p)) ≡ refusal (walkRows n o c used m pass row)
     own =
-        passed-more (cellRows n o c used) (argumentRows (some p)) refl (rw (le-ltb _ _ (t .few), t .ordered, t .lent, t .is-sound))
+        passed-more (cellRows n o c used) (behindCells (some p)) refl (rw (le-ltb _ _ (t .few), t .ordered, t .lent, t .is-sound))
         ∙ ap (λ (i : ℕ). refusal (walkRows n o c used m (some i) row)) e
         ∙ by-node pass
 
     pub walk-far : used + 1 < m → Walks n o c used m pass row (refused 7 (0 ∷ 0 ∷ 0 ∷ []))
-    walk-far h = let z : 7 ≡ refusal (argumentRows (some p)) = rw (lt-ltb (used + 1) m h) in refused-by pass (z ∙ own) (omega arith)
+    walk-far h = let z : 7 ≡ refusal (behindCells (some p)) = rw (lt-ltb (used + 1) m h) in refused-by pass (z ∙ own) (omega arith)
 
     module _ (h : m ≤ used + 1) where
       pub pass-far : used + 1 < p → Walks n o c used m pass row (refused 7 (0 ∷ 0 ∷ 0 ∷ []))
       pass-far g =
-          let z : 7 ≡ refusal (argumentRows (some p)) = rw (le-ltb (used + 1) m h, lt-ltb (used + 1) p g) in refused-by pass (z ∙ own) (omega arith)
+          let z : 7 ≡ refusal (behindCells (some p)) = rw (le-ltb (used + 1) m h, lt-ltb (used + 1) p g) in refused-by pass (z ∙ own) (omega arith)
 
       module _ (g : p ≤ used + 1) where
         row-own : refusal (rowRows n c (some p) row) ≡ refusal (walkRows n o c used m pass row)
         row-own =
-            let z : refusal (rowRows n c (some p) row) ≡ refusal (argumentRows (some p)) =
+            let z : refusal (rowRows n c (some p) row) ≡ refusal (behindCells (some p)) =
             rw (le-ltb (used + 1) m h, le-ltb (used + 1) p g) in
             z ∙ own
 
