@@ -9,6 +9,9 @@ enum { MOST_FLAGS = 10, SET_COUNT = 1 << MOST_FLAGS, MOST_WAYS = SET_COUNT / 2, 
 // What the engine's hashes of ways and of records multiply by.
 enum { FLAG_FACTOR = 349, HIGH_FACTOR = 633 };
 
+// What a node weighs in the cost of an order: more than all flags that walks can ask.
+enum { NODE_WEIGHT = 16384 };
+
 // More numbers than nodes have, by which the engine's words of records are made.
 enum { NUMBERS = 2048 };
 
@@ -45,18 +48,22 @@ static void fold(const uint16_t *source, unsigned p, uint16_t *codes, unsigned w
     }
 }
 
-// How many ways are the first with their code and have two halves that differ.
-static unsigned count(const uint16_t *source, unsigned p, const uint16_t *codes, unsigned ways)
+// What asking a flag costs while a set of so many flags is still to be asked: the rows of the ways whose halves differ, and the nodes, which are those of these ways
+// that are the first with their code.
+static unsigned cost_of(const uint16_t *source, unsigned p, const uint16_t *codes, unsigned ways, unsigned flags)
 {
-    unsigned nodes = 0;
+    unsigned nodes = 0, differing = 0;
     for (unsigned i = 0; i < ways; i++) {
         const uint16_t *pair = source + widen(i, p);
-        nodes += codes[i] == i && pair[0] != pair[1u << p];
+        unsigned differs = pair[0] != pair[1u << p];
+        differing += differs;
+        nodes += codes[i] == i && differs;
     }
-    return nodes;
+    return nodes * NODE_WEIGHT + (differing << flags);
 }
 
-// The first best order by dictionary comparison: sets by rising number, so that every subset of a set is solved before it.
+// The order with the fewest nodes, of several the one whose walks ask the fewest flags, and of these the first by dictionary comparison: sets by rising number,
+// so that every subset of a set is solved before it.
 static void search(unsigned n, const uint8_t *table, uint8_t *order, uint16_t *workspace)
 {
     uint32_t starts[SET_COUNT], least[SET_COUNT];
@@ -68,7 +75,8 @@ static void search(unsigned n, const uint8_t *table, uint8_t *order, uint16_t *w
     least[0] = 0;
     unsigned end = all + 1;
     for (unsigned set = 1; set <= all; set++) {
-        unsigned ways = 1u << (n - __builtin_popcount(set));
+        unsigned flags = __builtin_popcount(set);
+        unsigned ways = 1u << (n - flags);
         uint16_t *codes = workspace + end;
         starts[set] = end;
         end += ways;
@@ -79,7 +87,7 @@ static void search(unsigned n, const uint8_t *table, uint8_t *order, uint16_t *w
             if (!(set >> v & 1))
                 continue;
             unsigned rest = set & ~(1u << v);
-            unsigned cost = least[rest] + count(workspace + starts[rest], place_of(set, v), codes, ways);
+            unsigned cost = least[rest] + cost_of(workspace + starts[rest], place_of(set, v), codes, ways, flags);
             if (cost < least[set]) {
                 least[set] = cost;
                 first[set] = v;

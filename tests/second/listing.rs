@@ -1,7 +1,7 @@
 //! The listing program by the paper's words, and the lines of its vectors.
 
 use crate::{all_tables, digits, draw_packed, each_once, numbers, or_refused, phrase, recast};
-use crate::{refuse, table_from, tables_with_form, Dice, Drawing};
+use crate::{refuse, shorter_tables, table_from, tables_with_form, Dice, Drawing};
 
 /// "It reads standard input up to the first byte 0A, or to the end"; each byte is a row.
 pub fn list(input: &[u8]) -> Result<String, usize> {
@@ -24,9 +24,10 @@ pub fn say(input: &[u8]) -> String {
     or_refused(list(input)) + "\n"
 }
 
-/// The tables that are listed, each once: the paper's, all of up to two flags, those with a form
-/// and random ones.
-fn tables(dice: &mut Dice) -> Vec<Vec<usize>> {
+/// The tables that are listed, each once: the paper's, all of up to two flags, those with a form,
+/// random ones and those of request 6.
+pub fn tables() -> Vec<Vec<usize>> {
+    let dice = &mut Dice(0x0B5E_55ED_CAFE_0010);
     let mut tables = vec![numbers("0000010100110111")];
     tables.extend((0..=2).flat_map(all_tables));
     (3..=6).for_each(|n| tables.extend(tables_with_form(n, dice)));
@@ -39,6 +40,7 @@ fn tables(dice: &mut Dice) -> Vec<Vec<usize>> {
     tables.push(recast(&pairs, 8, &dice.order(8)));
     tables.extend([1, 4, 6, 7].map(|kept| recast(&dice.table(kept, 4), 8, &dice.order(8)[..kept])));
     tables.extend([1, 4, 4, 6].map(|eighths| dice.table(8, eighths)));
+    tables.extend(shorter_tables());
     each_once(tables)
 }
 
@@ -72,8 +74,7 @@ fn refused() -> Vec<Vec<u8>> {
 
 /// The lines of input, each that of one run, and what is printed for all of them.
 pub fn vectors() -> (Vec<u8>, String) {
-    let tables = tables(&mut Dice(0x0B5E_55ED_CAFE_0010));
-    let mut lines: Vec<Vec<u8>> = tables.iter().map(|table| digits(table).into_bytes()).collect();
+    let mut lines: Vec<Vec<u8>> = tables().iter().map(|table| digits(table).into_bytes()).collect();
     lines.extend(refused());
     let input: Vec<u8> = lines.iter().flat_map(|line| [line, &b"\n"[..]].concat()).collect();
     (input, lines.iter().map(|line| say(line)).collect())

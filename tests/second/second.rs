@@ -1,11 +1,12 @@
 //! The second program: an oracle for the diagram engine, written apart from it. From a table it
 //! draws the full decision tree, applies the two collapsing steps of document 001, section 2.1,
-//! as they are worded, and finds the packed order by trying every order. It finds the flags that
-//! a walk asks by the table, and by the collapsed tree. By tables alone it numbers a diagram's
-//! records, and keeps a store, with the plain book beside it; it reads and writes rule files and
-//! prints sheets. It checks the papers' examples, writes test vectors, lists a table and plays
-//! lines of files, of sheets and of store calls. "The paper" below is document 01; `Err` holds the
-//! number of a refusal. Build: rustc -O --edition 2021 second.rs
+//! as they are worded, and finds the packed order by trying every order, up to six flags walking
+//! each row of its collapsed tree. It finds the flags that a walk asks by the table, and by the
+//! collapsed tree. By tables alone it numbers a diagram's records, and keeps a store, with the
+//! plain book beside it; it reads and writes rule files and prints sheets. It checks the papers'
+//! examples, writes test vectors, lists a table and plays lines of files, of sheets and of store
+//! calls. "The paper" below is document 01; `Err` holds the number of a refusal. Build:
+//! rustc -O --edition 2021 second.rs
 
 mod book;
 mod damaged;
@@ -120,11 +121,13 @@ impl Diagram {
     }
 }
 
-/// What is told of a reduced diagram: `flags[i]` of its nodes ask flag i.
+/// What is told of a reduced diagram: `flags[i]` of its nodes ask flag i, and the walks over all
+/// rows ask so many flags in total.
 struct Drawing {
     order: Vec<usize>,
     nodes: usize,
     flags: Vec<usize>,
+    asked: usize,
     root: usize,
 }
 
@@ -172,9 +175,10 @@ fn draw(table: &[usize], order: &[usize]) -> Drawing {
     let count = |i: usize| diagram.nodes.iter().filter(|node| asks(node, i)).count();
     let flags: Vec<usize> = (0..order.len()).map(count).collect();
     let nodes = flags.iter().sum();
+    let asked = (0..table.len()).map(|row| diagram.walk(row).1.len()).sum();
     // "its root is its last record, or an end node when there are none"; record k is node k+2.
     let root = if nodes == 0 { table[0] } else { nodes + 1 };
-    Drawing { order: order.to_vec(), nodes, flags, root }
+    Drawing { order: order.to_vec(), nodes, flags, asked, root }
 }
 
 /// All orders of n flags that begin as given, by dictionary comparison.
@@ -190,34 +194,52 @@ fn flag_count(table: &[usize]) -> usize {
     table.len().trailing_zeros() as usize
 }
 
-/// "Nodes asking flag v number the distinct rules that depend on v and arise by fixing the flags
-/// before v in all ways." With the flag asked first as the highest bit of a row, fixing flags cuts
-/// the table into pieces, and one depends on the next flag if its halves differ.
-fn count_nodes(table: &[usize], order: &[usize]) -> usize {
+/// The nodes, and the flags that the walks over all rows ask in total, without drawing. "Nodes
+/// asking flag v number the distinct rules that depend on v and arise by fixing the flags before v
+/// in all ways." With the flag asked first as the highest bit of a row, fixing flags cuts the table
+/// into pieces, and one depends on the next flag if its halves differ; then each of its rows asks.
+fn count(table: &[usize], order: &[usize]) -> (usize, usize) {
     let n = order.len();
     let seen = |row: usize| (0..n).map(|k| ((row >> (n - 1 - k)) & 1) << order[k]).sum::<usize>();
     let rows: Vec<u8> = (0..table.len()).map(|row| table[seen(row)] as u8).collect();
     let asking = |k: usize| {
         let half = rows.len() >> (k + 1);
         let pieces = rows.chunks(2 * half).filter(|piece| piece[..half] != piece[half..]);
-        pieces.collect::<HashSet<_>>().len()
+        let pieces: Vec<&[u8]> = pieces.collect();
+        (pieces.iter().collect::<HashSet<_>>().len(), pieces.len() * 2 * half)
     };
-    (0..n).map(asking).sum()
+    let levels: Vec<(usize, usize)> = (0..n).map(asking).collect();
+    (levels.iter().map(|level| level.0).sum(), levels.iter().map(|level| level.1).sum())
 }
 
-/// "The order has the fewest nodes of all n! orders; of several, the one first by dictionary
-/// comparison": min_by_key gives the first of equals. From seven flags on the nodes are counted,
-/// and only the order found is drawn.
+/// "Pack now takes, among the orders with fewest nodes, one whose walks over all 2^n rows ask the
+/// fewest flags in total, and only then goes by dictionary comparison": min_by_key gives the first
+/// of equals. From seven flags on both are counted, and only the order found is drawn.
 fn draw_packed(table: &[usize]) -> Drawing {
     let all = orders(flag_count(table), &[]).into_iter();
     let drawing = if flag_count(table) <= 6 {
-        all.map(|order| draw(table, &order)).min_by_key(|drawing| drawing.nodes)
+        all.map(|order| draw(table, &order)).min_by_key(|drawing| (drawing.nodes, drawing.asked))
     } else {
-        all.min_by_key(|order| count_nodes(table, order)).map(|order| draw(table, &order))
+        all.min_by_key(|order| count(table, order)).map(|order| draw(table, &order))
     };
     let drawing = drawing.expect("every n has an order");
-    assert_eq!(drawing.nodes, count_nodes(table, &drawing.order), "counted otherwise");
+    let counted = count(table, &drawing.order);
+    assert_eq!((drawing.nodes, drawing.asked), counted, "counted otherwise");
     drawing
+}
+
+/// How many of the tables are packed in another order than the first with the fewest nodes, which
+/// the paper took before request 6; and of how many.
+fn changed(tables: &[Vec<usize>]) -> String {
+    let changes = |table: &&Vec<usize>| {
+        let all = orders(flag_count(table), &[]);
+        let counts: Vec<(usize, usize)> = all.iter().map(|order| count(table, order)).collect();
+        let shortest = (0..all.len()).min_by_key(|&place| counts[place]);
+        shortest != (0..all.len()).min_by_key(|&place| counts[place].0)
+    };
+    let changed = tables.iter().filter(changes).count();
+    assert!(changed > 0, "no table tells the two choices apart");
+    format!("{changed} of {}", tables.len())
 }
 
 /// "give the first that applies": the tests stand in their sequence.
@@ -286,6 +308,15 @@ const EXAMPLES: &[(&str, &str)] = &[
     ("build 3 00010011 all 012", "nodes 4; cells 2 0 1 1 0 1 1 0 2 0 4 3"),
     ("build 3 00010111 all 012", "nodes 4; cells 2 0 1 1 0 2 1 2 1 0 3 4"),
     ("build 3 00011011 all 012", "nodes 3; cells 2 0 1 1 0 1 0 2 3"),
+    // Document 02, request 6: as few nodes in two orders, an order that asks less with more nodes,
+    // and one whose paths are shorter.
+    ("build 3 00000111 all 012", "nodes 3; asked 18"),
+    ("build 3 00000111 all 201", "nodes 3; asked 14"),
+    ("pack 3 00000111 all 27", "nodes 3; order 2 0 1; asked 14"),
+    ("list 00000111", "flags 3\nnodes 3\norder 2 0 1\nflag 0 1\nflag 1 1\nflag 2 1\nyes 3"),
+    ("build 4 1010000001001101 all 0312", "nodes 7; asked 48"),
+    ("pack 4 1010000001001101 all 81", "nodes 6; order 0 2 1 3; asked 52"),
+    ("pack 4 0001110001001010 all 81", "nodes 8; order 0 2 1 3; asked 52"),
     // Document 001, Fig. 2 (a) and (b); their orders are listed there from the end nodes upward.
     ("build 4 0001000100011111 all 2301", "nodes 4"),
     ("build 4 0001000100011111 all 2031", "nodes 6"),
@@ -327,10 +358,10 @@ fn answer(ask: &str) -> Result<String, usize> {
     ])?;
     let drawing = order.map_or_else(|| draw_packed(&table), |order| draw(&table, &order[..n]));
     refuse(&[(10, drawing.nodes > cells / WIDTH)])?;
-    let Drawing { order, nodes, flags, root } = drawing;
+    let Drawing { order, nodes, flags, asked, root } = drawing;
     let cells = phrase("cells", &sequence::drawn(&table, &order).concat());
     let (order, flags) = (phrase("order", &order), phrase("flags", &flags));
-    Ok(format!("nodes {nodes}; {order}; {flags}; root {root}; {cells}"))
+    Ok(format!("nodes {nodes}; {order}; {flags}; asked {asked}; root {root}; {cells}"))
 }
 
 /// Gives the exit code: 0 if every example agrees, and the own checks of the store, the files, the
@@ -439,6 +470,12 @@ fn large_tables() -> Vec<Vec<usize>> {
     each_once(tables)
 }
 
+/// What settles request 6, and two that tell its choice from others: one where another order asks
+/// less with more nodes, and one where the diagram's paths would choose otherwise than the rows.
+fn shorter_tables() -> Vec<Vec<usize>> {
+    ["00000111", "1010000001001101", "0001110001001010"].map(numbers).to_vec()
+}
+
 /// Numbers as one: at each, 31 times the sum so far, the number and 7, modulo 65,521.
 fn sum_of(numbers: impl IntoIterator<Item = usize>) -> usize {
     numbers.into_iter().fold(0, |sum, number| (31 * sum + number + 7) % 65_521)
@@ -465,7 +502,8 @@ fn vectors(directory: &str) -> std::io::Result<()> {
     let mut dice = Dice(0x0B5E_55ED_CAFE_0001);
     let tables = vector_tables(&mut dice);
     let [mut pack_in, mut pack_out, mut build_in, mut build_out] = [(); 4].map(|_| String::new());
-    for table in tables.iter().chain(&large_tables()) {
+    let packed = [tables.clone(), large_tables(), shorter_tables()].concat();
+    for table in &packed {
         let Drawing { order, nodes, flags, .. } = draw_packed(table);
         let cells = say_cells(table, &order);
         let (order, flags) = (phrase("order", &order), phrase("flags", &flags));
@@ -473,8 +511,8 @@ fn vectors(directory: &str) -> std::io::Result<()> {
         pack_out += &format!("nodes {nodes} {order} {flags} {cells}\n");
     }
     let mut case = |table: &[usize], order: &[usize]| {
-        let Drawing { nodes, flags, .. } = draw(table, order);
-        assert_eq!(nodes, count_nodes(table, order), "counted otherwise");
+        let Drawing { nodes, flags, asked, .. } = draw(table, order);
+        assert_eq!((nodes, asked), count(table, order), "counted otherwise");
         build_in += &format!("d {} {}\n", digits(table), digits(order));
         let (flags, walks) = (phrase("flags", &flags), sum_of_walks(table, order));
         build_out += &format!("nodes {nodes} {flags} walks {walks} {}\n", say_cells(table, order));
@@ -505,7 +543,10 @@ fn vectors(directory: &str) -> std::io::Result<()> {
     std::fs::write(format!("{directory}/sheet.out"), sheet_out)?;
     let (listing_in, listing_out) = listing::vectors();
     std::fs::write(format!("{directory}/listing.in"), listing_in)?;
-    std::fs::write(format!("{directory}/listing.out"), listing_out)
+    std::fs::write(format!("{directory}/listing.out"), listing_out)?;
+    let (packed, listed) = (changed(&packed), changed(&listing::tables()));
+    println!("second: request 6 gave {packed} packed tables another order, and {listed} listed");
+    Ok(())
 }
 
 /// Gives the exit code, or None for any other use.

@@ -3,49 +3,87 @@
 use mathlib.Core.Path.{_≡_, refl, ap, ap₂, _∙_}
 use mathlib.Core.Logic.{_≢_}
 use mathlib.Core.List.{List}
-use Prim.Native.Nat.{ℕ, _+_, _-_, _*_, _≤_, _<_}
-use native.Mathlib.Nat.{le-refl, le-trans}
+use Prim.Native.Nat.{ℕ, suc, _+_, _-_, _*_, _/_, _%_, _^_, _≤_, _<_}
+use native.Mathlib.Nat.{le-refl, mul-le-mul}
 use native.Mathlib.Omega.{arith}
 use borrow.Author.Count.{below-more}
 use lib.ListN.{length, getD, take, drop}
+use lib.Pow.{pow-mono, shl-exact}
 use Rattle.rule.specs.Bits.{bit, setBit, below}
-use Rattle.theory.proofs.Bits.{clear-lt, length-from}
-use Rattle.theory.proofs.Tests.{length-keep}
-use Rattle.ways.specs.Ways.{placeOf}
-use Rattle.folding.specs.Fold.{foldCount}
+use Rattle.rule.specs.Sets.{setSize}
+use Rattle.theory.proofs.Tests.{below-keep}
+use Rattle.sets.specs.Post.{Size}
+use Rattle.sets.proofs.Size.{size-most}
+use Rattle.ways.specs.Ways.{placeOf, Foldable}
+use Rattle.folding.specs.Fold.{foldCount, differing, Counts}
+use Rattle.folding.proofs.Outside.{rest-size}
 use Rattle.stretches.specs.Stretch.{stretchOf, PartOf}
 use Rattle.costing.specs.Ready.{Ready, Lowest}
-use Rattle.costing.specs.Choice.{via, Bounded, CheapestBelow, Cheapest}
-use Rattle.costing.proofs.Ready.{rest-half, rest-most, ready-flag, ready-rest, source-is, own-is}
+use Rattle.costing.specs.Choice.{nodeWeight, askingCost, via, mostCost, Bounded, CheapestBelow, Cheapest}
+use Rattle.costing.proofs.Ready.{rest-half, rest-foldable, ready-flag, ready-rest, source-is, own-is}
 
 -- ---- costs
 
 count-most : (s : List ℕ) (p : ℕ) (d : List ℕ) → foldCount s p d ≤ length d
 unfolding foldCount
-count-most s p d = le-trans (length-keep _ (below (length d))) (omega (arith, length-from 0 (length d)))
+count-most s p d = below-keep _ (length d)
+
+ways-most : (s : List ℕ) (p : ℕ) → differing s p ≤ length s / 2
+unfolding differing
+ways-most s p = below-keep _ (length s / 2)
+
+-- a node weighs more than all flags that walks can ask
+pub heavy : (n : ℕ) → n ≤ 10 → n * 2 ^ n < nodeWeight
+heavy n few = omega (arith, mul-le-mul few (pow-mono {i = n} {j = 10} few))
+
+-- codes that can be folded have at most 512 nodes and ways
+module _ {s : List ℕ} {p : ℕ} (f : Foldable s p) where
+  source-most : length s ≤ 1024
+  source-most = omega (arith, f .ways, pow-mono {i = suc (f .flags)} {j = 10} (omega (arith, f .few)))
+
+  pub nodes-few : (d : List ℕ) → length s ≡ length d * 2 → foldCount s p d ≤ 512
+  nodes-few d e = omega (arith, count-most s p d, source-most)
+
+  ways-few : differing s p ≤ 512
+  ways-few = omega (arith, ways-most s p, source-most)
+
+-- a flag's cost by the counts of its nodes and ways; shifted to rows, nothing of so few ways is lost
+module _ (S v : ℕ) {p a nodes ways : ℕ} (s d : List ℕ) (f : Foldable s (placeOf S v)) (q : p ≡ placeOf S v)
+    (x : Counts s p d nodes ways) (y : Size S a) where
+  pub asking-cost-is : nodes * nodeWeight + ways * 2 ^ a % 2 ^ 32 ≡ askingCost S v s d
+  unfolding askingCost
+  asking-cost-is =
+      ap (λ (k : ℕ). nodes * nodeWeight + k) (shl-exact 10 a 32 (omega (arith, x .ways-are, ap (differing s) q, ways-few f)) (omega (arith, y .most)))
+      ∙ rw (x .nodes-are, x .ways-are, q, y .is)
+
+-- and that is small
+pub asking-cost-most : (S v : ℕ) (s d : List ℕ) → Foldable s (placeOf S v) → length s ≡ length d * 2 → setSize S ≤ 10 → askingCost S v s d ≤ mostCost
+unfolding askingCost
+asking-cost-most S v s d f e h = omega (arith, nodes-few f d e, mul-le-mul (ways-few f) (pow-mono {i = setSize S} {j = 10} h))
 
 module _ {n S : ℕ} {starts w least : List ℕ} (g : Ready n S starts w) (f : Bounded n least) (v : ℕ) (e : bit S v ≡ 1) where
   -- a set's cost has room in 32 bits
-  pub via-most : via n w least S v ≤ S * 1024
+  pub via-most : via n w least S v ≤ setSize S * mostCost
   unfolding via
   via-most =
       let few = g .started .few in
       omega (
         arith,
         f .most (setBit S v 0) (ready-rest g v refl),
-        count-most (stretchOf n w (setBit S v 0)) (placeOf S v) (stretchOf n w S),
-        rest-half n S v w few (g .below) (g .lent) e,
-        rest-most n S v w few (g .below) (g .lent) e,
-        clear-lt S v e,
+        asking-cost-most S v (stretchOf n w (setBit S v 0)) (stretchOf n w S) (rest-foldable n S v w few (g .below) (g .lent) e)
+            (rest-half n S v w few (g .below) (g .lent) e) (omega (arith, size-most n S few (g .below))),
+        rest-size n S v few (g .below) (ready-flag g v e) e,
+        size-most n (setBit S v 0) few (ready-rest g v refl),
+        size-most n S few (g .below),
       )
 
-  -- the count of the lent parts is the one that the cost speaks of
-  pub via-is : {r from to start end p k : ℕ} → r ≡ setBit S v 0 → PartOf n r from to → PartOf n S start end → p ≡ placeOf S v
-      → k ≡ foldCount (take (to - from) (drop from w)) p (take (end - start) (drop start w)) → getD least r 0 + k ≡ via n w least S v
+  -- the cost by the lent parts is the one that the set's cost speaks of
+  pub via-is : {r from to start end k : ℕ} → r ≡ setBit S v 0 → PartOf n r from to → PartOf n S start end
+      → k ≡ askingCost S v (take (to - from) (drop from w)) (take (end - start) (drop start w)) → getD least r 0 + k ≡ via n w least S v
   unfolding via
-  via-is rest a b q c =
+  via-is rest a b c =
       ap₂ _+_ (ap (λ (x : ℕ). getD least x 0) rest)
-      (c ∙ rw (source-is g v e rest a b, own-is g v e rest a b, q))
+      (c ∙ rw (source-is g v e rest a b, own-is g v e rest a b))
 
 -- ---- the cheapest of the flags passed
 

@@ -35,9 +35,6 @@ module _ (n S v : ℕ) (w : List ℕ) (few : n ≤ 10) (h : S < 2 ^ n) (l : 3 ^ 
         few = omega arith;
       }
 
-  pub rest-most : length (stretchOf n w (setBit S v 0)) ≤ 1024
-  rest-most = omega (arith, rest-length, pow-mono {i = n - setSize (setBit S v 0)} {j = 10} (omega arith))
-
 -- ---- a set at hand
 
 module _ {n S : ℕ} {starts w : List ℕ} (g : Ready n S starts w) where

@@ -1,9 +1,15 @@
 // What it costs to ask the flags of a set with each of them first, and the cheapest (document 01, "Packing"; document 001, chapter 3).
 use stretches::SET_COUNT;
 ghost use mathlib.Core.Path.{_≡_};
+ghost use Prim.Native.Nat.{_*_, _<_};
+ghost use lib.ListN.{length};
 ghost use Rattle.rule.specs.Bits.{bit};
+ghost use Rattle.ways.specs.Ways.{placeOf, Foldable};
 ghost use Rattle.costing.specs.Ready.{Ready, Lowest};
-ghost use Rattle.costing.specs.Choice.{Bounded, via, Cheapest};
+ghost use Rattle.costing.specs.Choice.{askingCost, Bounded, via, Cheapest};
+
+// What a node weighs: more than all flags that walks can ask, 10 in each of 1,024 rows.
+const NODE_WEIGHT: u32 = 16384;
 
 // A flag of a set, and the least cost of the orders that ask it first.
 pub struct Choice {
@@ -11,7 +17,19 @@ pub struct Choice {
     pub flag: u16,
 }
 
-// What it costs to ask flag v of a set first: the nodes that ask it, counted in 64 bits, and the least cost of the rest.
+// What asking flag v costs while the set is still to be asked, by the codes of the set without v and of the set: the nodes that ask v, counted in 64 bits, and
+// the rows whose walk does.
+fn asking_cost(set: u16, v: u16, source: &[u16], codes: &[u16]) -> u32
+    requires { ⌜ (set < 1024) × (v < 10) × Foldable (now source) (placeOf set v) × (length (now source) ≡ length (now codes) * 2) ⌝ }
+    ensures { λ r. ⌜ r ≡ askingCost set v (now (source .entry)) (now (codes .entry)) ⌝ }
+{
+    let asking = folding::count(source, ways::place_of(set, v), codes);
+    let nodes = asking.nodes as u32;
+    let ways = asking.ways as u32;
+    nodes * NODE_WEIGHT + (ways << sets::size_of(set))
+}
+
+// What it costs to ask flag v of a set first: its own cost, and the least cost of the rest.
 fn via(
     n: u8,
     set: u16,
@@ -30,12 +48,7 @@ fn via(
     let own = stretches::locate(n, starts, set);
     let start = own.start;
     let end = own.end;
-    let nodes = folding::count(
-        &workspace[from..to],
-        ways::place_of(set, v),
-        &workspace[start..end],
-    );
-    least[rest as usize] + nodes as u32
+    least[rest as usize] + asking_cost(set, v, &workspace[from..to], &workspace[start..end])
 }
 
 // The cheapest flag of a set, of several the smallest; v is the set's smallest flag.

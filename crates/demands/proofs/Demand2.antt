@@ -4,7 +4,7 @@ use Rattle.rule.specs.Demands.{Demand2}
 use Rattle.demands.proofs.Stands.{built, packs, checked, written, printed}
 use Rattle.demands.proofs.Reader.{read}
 use Rattle.demands.proofs.Canonical.{canonical, root-last}
-use Rattle.demands.proofs.Counts.{counts, asks}
+use Rattle.demands.proofs.Counts.{counts, asks, walks-ask, asked-total, asked-by-flag}
 use Rattle.demands.proofs.Exists.{exists}
 use Rattle.demands.proofs.Needs.{needs}
 use Rattle.demands.proofs.Suffices.{suffices}
@@ -25,6 +25,9 @@ demand2 =
       counts = counts;
       exists = exists;
       asks = asks;
+      walks-ask = walks-ask;
+      asked-total = asked-total;
+      asked-by-flag = asked-by-flag;
       one-diagram = one-diagram;
       needs = needs;
       suffices = suffices;

@@ -24,7 +24,7 @@ use Rattle.theory.proofs.Tests.{and-split}
 use Rattle.theory.proofs.Walks.{length-table, table-row}
 use Rattle.theory.proofs.Refused.{passed}
 use Rattle.demands.proofs.Stands.{accepted-reply, accepted-zero, number-of, number-was}
-use Rattle.demands.proofs.Counts.{equally}
+use Rattle.demands.proofs.Counts.{equally, equally-asked}
 use Rattle.demands.proofs.Packed.{packed-well}
 use Rattle.demands.proofs.Beside.{After, live, shut, steps-from-open, throughout-from-open, agrees-from-open}
 use Rattle.demands.proofs.PassRule as pass-rule
@@ -140,4 +140,5 @@ demand3 first s cells c b xs ys h =
       obeyed = throughout-from-open Obeys (λ s c b x y h. opens-obey b (x .asked) (x .answer) h) (λ s c b x y a. call-obeys (x .asked) x y a) first s cells c b xs
           ys h;
       equally = equally;
+      equally-asked = equally-asked;
     }

@@ -1,10 +1,11 @@
--- Codes that are folded are codes again, and their count is that of the nodes that ask the flag (document 001, chapter 3).
+-- Codes that are folded are codes again, their count is that of the nodes that ask the flag (document 001, chapter 3), and the ways whose halves differ are
+-- those of the rows whose walk does.
 -- Assumes nothing.
 use mathlib.Core.Path.{_≡_, sym, ap, ap₂, subst, _∙_}
 use mathlib.Core.Logic.{_↔_}
 use mathlib.Core.Bool.{Bool, true, _&&_, not}
 use mathlib.Core.List.{List, _++_, map}
-use Prim.Native.Nat.{ℕ, suc, _+_, _-_, _^_, _≤_, _<_}
+use Prim.Native.Nat.{ℕ, suc, _+_, _-_, _*_, _/_, _^_, _≤_, _<_}
 use native.Mathlib.Omega.{arith}
 use borrow.Author.Tests.{eqb-true, eqb-false, not-true, eq-eqb, ne-eqb}
 use lib.Count.{onesIn}
@@ -14,26 +15,27 @@ use lib.Pow.{pow-pos}
 use lib.Seq.{ext-getD}
 use Rattle.rule.specs.Bits.{bit, setBit, below}
 use Rattle.rule.specs.Tests.{keep}
-use Rattle.rule.specs.Table.{cofactor, depends}
-use Rattle.rule.specs.Level.{levelNodes}
+use Rattle.rule.specs.Table.{cofactor, depends, restrict}
+use Rattle.rule.specs.Level.{levelNodes, rowsAsking}
 use Rattle.rule.specs.Sets.{setSize, stretch}
 use Rattle.theory.proofs.Member.{In, in-map, map-in, cast}
-use Rattle.theory.proofs.Tests.{and-split, and-join, keep-in, in-keep}
+use Rattle.theory.proofs.Tests.{same-bool, and-split, and-join, keep-same, keep-in, in-keep}
 use Rattle.theory.proofs.Bits.{below-in, in-below}
 use Rattle.theory.proofs.Perm.{Once, Within, once-keep, once-from, once-map, once-set}
 use Rattle.theory.proofs.Cofactor.{depends-true, differ-depends}
 use Rattle.theory.proofs.Friedman.{level-in, in-level, level-once}
 use Rattle.theory.specs.Sets.{having}
 use Rattle.theory.proofs.Sets.{having-exactly}
-use Rattle.theory.proofs.Packed.{cost}
+use Rattle.theory.proofs.Packed.{nodeCost, rowCost}
 use Rattle.theory.proofs.Restrict.{restrict-all}
 use Rattle.theory.proofs.Canonical.{mix, mix-cofactors}
 use Rattle.ways.specs.Ways.{insertBit, placeOf, Foldable}
 use Rattle.ways.proofs.Insert.{insert-lt}
-use Rattle.folding.specs.Fold.{Folds, foldCount}
+use Rattle.folding.specs.Fold.{Folds, foldCount, differing}
 use Rattle.folding.specs.Codes.{fixedBy, wayRule, Codes, Firsts}
 use Rattle.folding.proofs.Fixed.{length-fixed, fixed-insert, fixed-in, in-fixed, fixed-row}
-use Rattle.folding.proofs.Outside.{above, outside-none, outside-size, outside-with, outside-without, outside-place, rest-size, place-le}
+use Rattle.folding.proofs.Outside.{above, outside-none, outside-all, outside-size, outside-with, outside-without, outside-place, rest-size, place-le}
+use Rattle.folding.proofs.RowsAsked.{rows-ways}
 
 module _ (n : ℕ) (t : List ℕ) (fit : length t ≡ 2 ^ n) where
   length-way : (set i : ℕ) → length (wayRule n t set i) ≡ 2 ^ n
@@ -123,6 +125,29 @@ module _ (n : ℕ) (t : List ℕ) (fit : length t ≡ 2 ^ n) where
                 );
           }
 
+      -- two halves differ where the way's rule depends on v
+      halves-test : (i : ℕ) → i < stretch n set
+          → not (eqb (getD s (insertBit i (placeOf set v) 0) 0) (getD s (insertBit i (placeOf set v) 1) 0)) ≡ depends v (wayRule n t set i)
+      halves-test i l =
+          let x = halves i i 0 1 l l (omega arith) (omega arith) in
+          same-bool _ _
+          (λ e. differ-depends v (wayRule n t set i) (λ y. eqb-false _ _ (not-true _ e) (x .1 y)))
+          (λ e. ap not (ne-eqb _ _ (λ y. depends-true v (wayRule n t set i) e (x .0 y))))
+
+      -- each such way is that of 2^k rows, for a set of k flags: together the rows whose walk asks v while the set is still to be asked
+      pub rows-are : differing s (placeOf set v) * 2 ^ setSize set ≡ rowCost n t set v
+      unfolding differing rowCost rowsAsking
+      rows-are =
+          let q = having-exactly 0 n set in
+          let size = outside-size n set few small in
+          let half : length s / 2 ≡ stretch n set = omega (arith, twice) in
+          rw half
+          (ap (λ (l : List ℕ). length l * 2 ^ setSize set)
+          (keep-same _ (λ (i : ℕ). depends v (wayRule n t set i)) (below (stretch n set)) (λ i m. halves-test i (below-in m)))
+          ∙ rw (← size)
+          (unfold wayRule in sym (rows-ways n (depends v) (having 0 n set) t (setSize set) (outside-all n set few small) (q .once) (λ i m. q .sound i m .0)))
+          ∙ ap (λ (k : ℕ). length (keep (λ (r : ℕ). depends v (restrict (having 0 n set) r t)) (below k))) (sym fit))
+
       -- and whatever flag they were folded by, their count is that of the nodes that ask v
       module _ {d : List ℕ} (e : Codes n t set d) (first : Firsts d) where
         node : ℕ → Bool
@@ -175,8 +200,8 @@ module _ (n : ℕ) (t : List ℕ) (fit : length t ≡ 2 ^ n) where
             let w : wayRule n t set (getD d i 0) ≡ u = e .same (getD d i 0) i r g .0 z ∙ q in
             cast (sym w) (in-map (wayRule n t set) (is-node (getD d i 0) r z (ap (depends v) w ∙ y)))
 
-        pub count-is : foldCount s (placeOf set v) d ≡ cost n t set v
-        unfolding foldCount cost rules node
+        pub count-is : foldCount s (placeOf set v) d ≡ nodeCost n t set v
+        unfolding foldCount nodeCost rules node
         count-is =
             sym (length-map (keep node (below (length d))) (wayRule n t set))
             ∙ once-set rules (levelNodes (having 0 n set) v t) rules-once (level-once (having 0 n set) v t) rules-in in-rules

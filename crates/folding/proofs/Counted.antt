@@ -1,9 +1,9 @@
--- The count of the ways that are nodes, one way at a time.
+-- The counts of the ways that are nodes, and of those whose halves differ, one way at a time.
 -- Assumes nothing.
 use mathlib.Core.Path.{_≡_, refl, sym, ap, _∙_}
-use mathlib.Core.Bool.{Bool, true, false, _&&_, not}
+use mathlib.Core.Bool.{Bool, true, false, _&&_, not, and-false}
 use mathlib.Core.List.{List}
-use Prim.Native.Nat.{ℕ, _+_, _≤_}
+use Prim.Native.Nat.{ℕ, _+_, _*_, _/_, _≤_}
 use native.Mathlib.Nat.{add-zero}
 use native.Mathlib.Omega.{arith}
 use borrow.Author.Tests.{eq-eqb, ne-eqb}
@@ -11,45 +11,64 @@ use lib.Dec.{eqb}
 use lib.ListN.{length, getD}
 use Rattle.rule.specs.Bits.{from, below}
 use Rattle.rule.specs.Tests.{keep}
-use Rattle.theory.proofs.Bits.{length-from}
-use Rattle.theory.proofs.Tests.{length-keep}
+use Rattle.theory.proofs.Tests.{below-keep}
 use Rattle.theory.proofs.Scan.{more, counted}
 use Rattle.ways.specs.Ways.{codeAt}
-use Rattle.folding.specs.Fold.{foldCount}
+use Rattle.folding.specs.Fold.{foldCount, differing}
+
+-- the halves of way i differ
+pub differs : List ℕ → ℕ → ℕ → Bool
+differs s p i = not (eqb (codeAt s p i 0) (codeAt s p i 1))
 
 -- way i is the first with its code, and its halves differ
-abbrev node : List ℕ → ℕ → List ℕ → ℕ → Bool
-node s p d i = eqb (getD d i 0) i && not (eqb (codeAt s p i 0) (codeAt s p i 1))
+pub node : List ℕ → ℕ → List ℕ → ℕ → Bool
+node s p d i = eqb (getD d i 0) i && differs s p i
 
--- those below k
-pub nodesBelow : List ℕ → ℕ → List ℕ → ℕ → ℕ
-nodesBelow s p d k = length (keep (node s p d) (below k))
+-- of the ways below k, those that pass a test
+pub passing : (ℕ → Bool) → ℕ → ℕ
+passing test k = length (keep test (below k))
 
-pub nodes-none : (s : List ℕ) (p : ℕ) (d : List ℕ) → 0 ≡ nodesBelow s p d 0
-unfolding nodesBelow keep from
-nodes-none s p d = refl
+pub passing-none : (test : ℕ → Bool) → 0 ≡ passing test 0
+unfolding passing keep from
+passing-none test = refl
 
-pub nodes-le : (s : List ℕ) (p : ℕ) (d : List ℕ) (k : ℕ) → nodesBelow s p d k ≤ k
-unfolding nodesBelow
-nodes-le s p d k = omega (arith, length-keep (node s p d) (below k), length-from 0 k)
+pub passing-le : (test : ℕ → Bool) (k : ℕ) → passing test k ≤ k
+unfolding passing
+passing-le test k = below-keep test k
 
-pub nodes-all : (s : List ℕ) (p : ℕ) (d : List ℕ) → nodesBelow s p d (length d) ≡ foldCount s p d
-unfolding nodesBelow foldCount
+pub nodes-all : (s : List ℕ) (p : ℕ) (d : List ℕ) → passing (node s p d) (length d) ≡ foldCount s p d
+unfolding passing node differs foldCount
 nodes-all s p d = refl
 
-module _ (s : List ℕ) (p : ℕ) (d : List ℕ) (i : ℕ) where
-  next : (b : Bool) → node s p d i ≡ b → nodesBelow s p d (i + 1) ≡ nodesBelow s p d i + more b
-  unfolding nodesBelow
-  next b e = counted (node s p d) i ∙ ap (λ (x : Bool). length (keep (node s p d) (below i)) + more x) e
+pub ways-all : (s : List ℕ) (p : ℕ) (d : List ℕ) → length s ≡ length d * 2 → passing (differs s p) (length d) ≡ differing s p
+unfolding passing differs differing
+ways-all s p d e = let half : length d ≡ length s / 2 = omega arith in rw half
 
-  -- a and b are the two codes that were read
-  pub node-counted : (a b : ℕ) → getD d i 0 ≡ i → a ≡ codeAt s p i 0 → b ≡ codeAt s p i 1 → (a ≡ b → ⊥) → nodesBelow s p d (i + 1) ≡ nodesBelow s p d i + 1
-  node-counted a b e f g h =
-      next true (rw (eq-eqb (getD d i 0) i e, ne-eqb (codeAt s p i 0) (codeAt s p i 1) (λ q. h (f ∙ q ∙ sym g))))
+next : (test : ℕ → Bool) (i : ℕ) (b : Bool) → test i ≡ b → passing test (i + 1) ≡ passing test i + more b
+unfolding passing
+next test i b e = counted test i ∙ ap (λ (x : Bool). length (keep test (below i)) + more x) e
 
-  pub halves-passed : (a b : ℕ) → getD d i 0 ≡ i → a ≡ codeAt s p i 0 → b ≡ codeAt s p i 1 → a ≡ b → nodesBelow s p d (i + 1) ≡ nodesBelow s p d i
-  halves-passed a b e f g h =
-      next false (rw (eq-eqb (getD d i 0) i e, eq-eqb (codeAt s p i 0) (codeAt s p i 1) (sym f ∙ h ∙ g))) ∙ add-zero _
+-- a and b are the two codes that were read
+module _ (s : List ℕ) (p i a b : ℕ) (f : a ≡ codeAt s p i 0) (g : b ≡ codeAt s p i 1) where
+  pub way-counted : (a ≡ b → ⊥) → passing (differs s p) (i + 1) ≡ passing (differs s p) i + 1
+  unfolding differs
+  way-counted h = next (differs s p) i true (rw (ne-eqb (codeAt s p i 0) (codeAt s p i 1) (λ q. h (f ∙ q ∙ sym g))))
 
-  pub later-passed : (getD d i 0 ≡ i → ⊥) → nodesBelow s p d (i + 1) ≡ nodesBelow s p d i
-  later-passed h = next false (rw (ne-eqb (getD d i 0) i h)) ∙ add-zero _
+  pub way-passed : a ≡ b → passing (differs s p) (i + 1) ≡ passing (differs s p) i
+  unfolding differs
+  way-passed h = next (differs s p) i false (rw (eq-eqb (codeAt s p i 0) (codeAt s p i 1) (sym f ∙ h ∙ g))) ∙ add-zero _
+
+  module _ (d : List ℕ) where
+    pub node-counted : getD d i 0 ≡ i → (a ≡ b → ⊥) → passing (node s p d) (i + 1) ≡ passing (node s p d) i + 1
+    unfolding node differs
+    node-counted e h =
+        next (node s p d) i true (rw (eq-eqb (getD d i 0) i e, ne-eqb (codeAt s p i 0) (codeAt s p i 1) (λ q. h (f ∙ q ∙ sym g))))
+
+    pub halves-passed : a ≡ b → passing (node s p d) (i + 1) ≡ passing (node s p d) i
+    unfolding node differs
+    halves-passed h =
+        next (node s p d) i false (rw (eq-eqb (codeAt s p i 0) (codeAt s p i 1) (sym f ∙ h ∙ g)) (and-false (eqb (getD d i 0) i))) ∙ add-zero _
+
+pub later-passed : (s : List ℕ) (p i : ℕ) (d : List ℕ) → (getD d i 0 ≡ i → ⊥) → passing (node s p d) (i + 1) ≡ passing (node s p d) i
+unfolding node
+later-passed s p i d h = next (node s p d) i false (rw (ne-eqb (getD d i 0) i h)) ∙ add-zero _

@@ -2,4 +2,5 @@ pub mod Folding
 pub mod Counted
 pub mod Fixed
 pub mod Outside
+pub mod RowsAsked
 pub mod Codes

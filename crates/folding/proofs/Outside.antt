@@ -14,16 +14,11 @@ use Rattle.rule.specs.Tests.{addIf, keep}
 use Rattle.rule.specs.Sets.{setSize, stretch}
 use Rattle.theory.proofs.Member.{In, head, tail}
 use Rattle.theory.proofs.Bits.{from-in, bit-zero, bit-same, bit-other, clear-le}
-use Rattle.theory.proofs.Tests.{keep-append}
+use Rattle.theory.proofs.Tests.{keep-append, keep-same}
 use Rattle.theory.specs.Sets.{having}
 use Rattle.ways.specs.Ways.{placeOf}
 
 -- ---- what is kept
-
-keep-same : (p q : ℕ → Bool) (xs : List ℕ) → ((x : ℕ) → In x xs → p x ≡ q x) → keep p xs ≡ keep q xs
-unfolding keep
-keep-same p q [] f = refl
-keep-same p q (x ∷ xs) f = ap₂ (λ (b : Bool) (l : List ℕ). addIf b x l) (f x (head refl)) (keep-same p q xs (λ y m. f y (tail m)))
 
 keep-all : (p : ℕ → Bool) (xs : List ℕ) → ((x : ℕ) → In x xs → p x ≡ true) → keep p xs ≡ xs
 unfolding keep
@@ -71,9 +66,12 @@ ones-high zero k x l h = let e : x ≡ 0 = omega arith in ap (onesIn k) e ∙ on
 ones-high (suc n) zero x l h = absurd (omega arith)
 ones-high (suc n) (suc k) x l h = ap (λ (y : ℕ). x % 2 + y) (ones-high n k (x / 2) (omega arith) (omega arith))
 
--- with n flags, n - k are outside a set of k
+-- of n flags each is in a set or outside it
+pub outside-all : (n set : ℕ) → n ≤ 10 → set < 2 ^ n → length (having 0 n set) + setSize set ≡ n
+outside-all n set l h = omega (arith, length-having n set, ones-high n 10 set l h)
+
 pub outside-size : (n set : ℕ) → n ≤ 10 → set < 2 ^ n → length (having 0 n set) ≡ n - setSize set
-outside-size n set l h = omega (arith, length-having n set, ones-high n 10 set l h)
+outside-size n set l h = omega (arith, outside-all n set l h)
 
 -- ---- one flag leaves
 

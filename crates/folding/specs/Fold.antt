@@ -1,11 +1,11 @@
--- Folding: the codes of a set's ways from those of the set without one flag (document 001, chapter 3), and the nodes that ask that flag.
+-- Folding: the codes of a set's ways from those of the set without one flag (document 001, chapter 3), the nodes that ask that flag, and the ways that do.
 -- Two ways have one code exactly where their rules agree.
 -- Assumes nothing.
 use mathlib.Core.Path.{_≡_}
 use mathlib.Core.Logic.{_↔_}
 use mathlib.Core.Bool.{_&&_, not}
 use mathlib.Core.List.{List}
-use Prim.Native.Nat.{ℕ, _*_, _≤_, _<_}
+use Prim.Native.Nat.{ℕ, _*_, _/_, _≤_, _<_}
 use lib.Dec.{eqb}
 use lib.ListN.{length, getD}
 use Rattle.rule.specs.Bits.{below}
@@ -25,3 +25,12 @@ unfoldable pub foldCount : List ℕ → ℕ → List ℕ → ℕ
 foldCount s p d =
     length
     (keep (λ i. eqb (getD d i 0) i && not (eqb (getD s (insertBit i p 0) 0) (getD s (insertBit i p 1) 0))) (below (length d)))
+
+-- how many ways have two halves that differ
+unfoldable pub differing : List ℕ → ℕ → ℕ
+differing s p = length (keep (λ i. not (eqb (getD s (insertBit i p 0) 0) (getD s (insertBit i p 1) 0))) (below (length s / 2)))
+
+-- both counts, of a source and codes
+pub record Counts (s : List ℕ) (p : ℕ) (d : List ℕ) (nodes ways : ℕ) : Type 0 where
+  pub nodes-are : nodes ≡ foldCount s p d
+  pub ways-are : ways ≡ differing s p

@@ -1,5 +1,5 @@
-// Folding (document 01, "Packing"; document 001, chapter 3): the codes of a set's ways, made from those of the set without one flag, and the number of nodes
-// that ask that flag while the set is still to be asked. The search of pack goes through the sets with these.
+// Folding (document 01, "Packing"; document 001, chapter 3): the codes of a set's ways, made from those of the set without one flag, and the numbers of nodes
+// and of ways that ask that flag while the set is still to be asked. The search of pack goes through the sets with these.
 use way_index::INDEX;
 use way_index::find_or_enter;
 use ways::code_at;
@@ -7,7 +7,7 @@ ghost use mathlib.Core.Path.{_≡_};
 ghost use Prim.Native.Nat.{_*_};
 ghost use lib.ListN.{length};
 ghost use Rattle.ways.specs.Ways.{Foldable};
-ghost use Rattle.folding.specs.Fold.{Folds, foldCount};
+ghost use Rattle.folding.specs.Fold.{Folds, Counts};
 
 // Folds the source at bit p into the lent stretch: the code of a way is the first way that has the same code in both halves of the source.
 pub fn fold(source: &[u16], p: u16, stretch: &mut [u16])
@@ -22,20 +22,28 @@ pub fn fold(source: &[u16], p: u16, stretch: &mut [u16])
     }
 }
 
-// How many ways are the first with their code and have two halves that differ. The codes may have been folded from another source.
-pub fn count(source: &[u16], p: u16, codes: &[u16]) -> u64
+// How many ways ask a flag, those whose halves differ, and how many nodes: the ways of these that are the first with their code.
+pub struct Asking {
+    pub nodes: u64,
+    pub ways: u16,
+}
+
+// Both counts. The codes may have been folded from another source.
+pub fn count(source: &[u16], p: u16, codes: &[u16]) -> Asking
     requires { ⌜ Foldable (now source) p × (length (now source) ≡ length (now codes) * 2) ⌝ }
-    ensures { λ r. ⌜ r ≡ foldCount (now (source .entry)) p (now (codes .entry)) ⌝ }
+    ensures { λ r. ⌜ Counts (now (source .entry)) p (now (codes .entry)) (r .nodes) (r .ways) ⌝ }
 {
     let mut nodes: u64 = 0;
+    let mut ways: u16 = 0;
     let mut i: u16 = 0;
     while (i as usize) < codes.len() {
-        if codes[i as usize] == i {
-            if code_at(source, p, i, 0) != code_at(source, p, i, 1) {
+        if code_at(source, p, i, 0) != code_at(source, p, i, 1) {
+            ways += 1;
+            if codes[i as usize] == i {
                 nodes += 1;
             }
         }
         i += 1;
     }
-    nodes
+    Asking { nodes, ways }
 }

@@ -25,7 +25,7 @@ fn lent_refusal(n: u8, table: &[u8], cells: &[u16], workspace: &[u16]) -> u8
     0
 }
 
-// Pack: the order with the fewest nodes, the node count and the root, with the diagram in the cells; or why there is none: 1, 2, 3, 5, 8, then 10, which
+// Pack: the packed order, the node count and the root, with the diagram in the cells; or why there is none: 1, 2, 3, 5, 8, then 10, which
 // build finds. The workspace is cleared whole once it has been used.
 pub fn pack(n: u8, table: &[u8], cells: &mut [u16], workspace: &mut [u16]) -> Packed
     ensures { λ r. ⌜ Pack n (now (table .entry)) (now (cells .entry)) (now (workspace .entry)) (packedReply (r .order) (r .answer)) (now (cells .exit)) (now (workspace .exit)) ⌝ }

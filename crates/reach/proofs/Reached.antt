@@ -1,8 +1,8 @@
 -- Reach from a root by the marks of children, in cells whose children are smaller.
 -- Assumes nothing.
-use mathlib.Core.Path.{_≡_, refl, sym}
+use mathlib.Core.Path.{_≡_, sym}
 use mathlib.Core.Logic.{inl, inr}
-use mathlib.Core.Bool.{Bool, true, false, false≢true}
+use mathlib.Core.Bool.{true, false, false≢true}
 use mathlib.Core.List.{List}
 use Prim.Native.Nat.{ℕ, _+_, _-_, _≤_, _<_}
 use native.Mathlib.Omega.{arith}
@@ -14,18 +14,11 @@ use Rattle.rule.specs.Tests.{each}
 use Rattle.rule.specs.Cells.{mostRecords}
 use Rattle.rule.specs.Sound.{childrenSmaller}
 use Rattle.rule.specs.Diagram.{allReached}
-use Rattle.theory.proofs.Tests.{each-below, below-each}
+use Rattle.theory.proofs.Tests.{same-bool, each-below, below-each}
 use Rattle.theory.proofs.Shape.{children-smaller}
 use Rattle.theory.specs.Shape.{Smaller}
 use Rattle.theory.proofs.Reach.{root-last, reached-parents, reached-by-parents}
 use Rattle.reach.specs.Mark.{Marked}
-
--- ---- tests
-
-same-bool : (a b : Bool) → (a ≡ true → b ≡ true) → (b ≡ true → a ≡ true) → a ≡ b
-same-bool true b f g = sym (f refl)
-same-bool false true f g = g refl
-same-bool false false f g = refl
 
 -- ---- all records reached
 

@@ -3,14 +3,14 @@
 use mathlib.Core.Path.{_≡_, refl}
 use mathlib.Core.Bool.{true}
 use mathlib.Core.List.{flatMap}
-use Rattle.rule.specs.Bits.{bit, setBit, from}
+use Rattle.rule.specs.Bits.{bit, setBit, from, sumOver}
 use Rattle.rule.specs.Tests.{each, keep, same, among}
-use Rattle.rule.specs.Table.{cofactor, depends, fixings}
-use Rattle.rule.specs.Level.{distinct, levelNodes, nodesFrom}
-use Rattle.rule.specs.Order.{times, eachOnce, restZero, fitOrder, askedBefore, picks, gather, ordersOf, firstLeast, leastOf, rank, packed}
+use Rattle.rule.specs.Table.{cofactor, depends, fixings, restrict}
+use Rattle.rule.specs.Level.{distinct, levelNodes, nodesFrom, askedBy, askedTotal, rowsAsking}
+use Rattle.rule.specs.Order.{times, eachOnce, restZero, fitOrder, askedBefore, picks, gather, ordersOf, firstLeast, leastOf, allAt, allLeast, smallest, packed}
 use Rattle.rule.specs.Sets.{flagSet}
 use Rattle.rule.specs.Cells.{fitCells, flagAt, lowAt, highAt, recordCells}
-use Rattle.rule.specs.Walk.{step, walkIn, passedIn}
+use Rattle.rule.specs.Walk.{step, walkIn, passedIn, walksAsking, askedInAll}
 use Rattle.rule.specs.Sound.{flagsBelow, childrenDiffer, childrenSmaller, asksLater, childrenLater, sameRecord, noneEqual, restClear, laid, shaped, sound}
 use Rattle.rule.specs.Diagram.{reachIn, allReached, diagram}
 use Rattle.rule.specs.Sequence.{rises, precedes, inSequence, insert, sorted, place, risesIn, rulesFrom, firstAsked, ruleRecord, recordsOf, drawing}
@@ -21,5 +21,5 @@ use Rattle.rule.specs.Sheet.{recordLine, lastLine, sheetLines, sheet, nu
 use Rattle.rule.specs.Examples.{holds, examples}
 
 pub examples-hold : each holds examples ≡ true
-unfolding bit setBit from each keep same among cofactor depends fixings distinct levelNodes nodesFrom times eachOnce restZero fitOrder askedBefore picks gather ordersOf firstLeast leastOf rank packed fitCells flagAt lowAt highAt flagSet step walkIn passedIn flagsBelow childrenDiffer childrenSmaller asksLater childrenLater sameRecord noneEqual restClear laid shaped sound reachIn allReached diagram rises precedes inSequence insert sorted place risesIn rulesFrom firstAsked ruleRecord recordsOf drawing unless readMap readFlags readOrder readLabel readRecords recordCells readEnd reading fileOf text decimalIn readLine flagsFrom listed listing flatMap recordLine lastLine sheetLines sheet numberFrom holds examples
+unfolding bit setBit from sumOver each keep same among cofactor depends fixings restrict distinct levelNodes nodesFrom askedBy askedTotal rowsAsking times eachOnce restZero fitOrder askedBefore picks gather ordersOf firstLeast leastOf allAt allLeast smallest packed fitCells flagAt lowAt highAt flagSet step walkIn passedIn walksAsking askedInAll flagsBelow childrenDiffer childrenSmaller asksLater childrenLater sameRecord noneEqual restClear laid shaped sound reachIn allReached diagram rises precedes inSequence insert sorted place risesIn rulesFrom firstAsked ruleRecord recordsOf drawing unless readMap readFlags readOrder readLabel readRecords recordCells readEnd reading fileOf text decimalIn readLine flagsFrom listed listing flatMap recordLine lastLine sheetLines sheet numberFrom holds examples
 examples-hold = refl

@@ -21,3 +21,8 @@ from a (suc k) = a ∷ from (suc a) k
 -- the numbers below n, rising: the flags of a rule of n flags, the rows of a table of n rows
 abbrev pub below : ℕ → List ℕ
 below n = from 0 n
+
+-- the sum of what f gives for each number of a list
+unfoldable pub sumOver : (ℕ → ℕ) → List ℕ → ℕ
+sumOver f [] = 0
+sumOver f (x ∷ xs) = f x + sumOver f xs

@@ -11,14 +11,14 @@ use mathlib.Core.Option.{Option, none, some}
 use Prim.Native.Nat.{ℕ, _+_, _*_, _^_, _≤_, _<_}
 use lib.Dec.{eqb}
 use lib.ListN.{length, getD, take}
-use Rattle.rule.specs.Bits.{bit, below}
+use Rattle.rule.specs.Bits.{bit, below, sumOver}
 use Rattle.rule.specs.Tests.{each}
 use Rattle.rule.specs.Table.{fitLength, fitRows, depends, restrict}
-use Rattle.rule.specs.Level.{levelCount, size}
+use Rattle.rule.specs.Level.{levelCount, size, askedTotal, rowsAsking}
 use Rattle.rule.specs.Order.{places, flags, fitOrder, askedBefore, Lex}
 use Rattle.rule.specs.Sets.{setSize}
 use Rattle.rule.specs.Cells.{width, fitCells, room, flagAt, lowAt, highAt, RecordValues, laidIn, recordIn, recordsIn}
-use Rattle.rule.specs.Walk.{recordsPassed, flagsAsked, walkValues, tableOf}
+use Rattle.rule.specs.Walk.{recordsPassed, flagsAsked, walkValues, tableOf, walksAsking, askedInAll}
 use Rattle.rule.specs.Sound.{sound}
 use Rattle.rule.specs.Diagram.{diagram, asking}
 use Rattle.rule.specs.Sequence.{inSequence, drawing}
@@ -96,6 +96,14 @@ pub record Demand2 : Type 0 where
   -- flags before v in all ways."
   pub asks : (n : ℕ) (order t : List ℕ) → Fit n order t → (c : List ℕ) (used root : ℕ) → DrawnAs n order t c used root → (v : ℕ) → v < n
       → asking c used v ≡ levelCount (askedBefore v (flags n order)) v t
+  -- and the walks of the rows (request 6): how many ask each flag, and how many flags they ask in total
+  pub walks-ask : (n : ℕ) (order t : List ℕ) → Fit n order t → (c : List ℕ) (used root : ℕ) → DrawnAs n order t c used root → (v : ℕ) → v < n
+      → walksAsking n c root v ≡ rowsAsking (askedBefore v (flags n order)) v t
+  pub asked-total : (n : ℕ) (order t : List ℕ) → Fit n order t → (c : List ℕ) (used root : ℕ) → DrawnAs n order t c used root
+      → askedInAll n c root ≡ askedTotal (flags n order) t
+  -- the total is the sum over the flags of the rows whose walk asks each, so that the choice by it rests on `EquallyAsked`
+  pub asked-by-flag : (n : ℕ) (order t : List ℕ) → Fit n order t → (c : List ℕ) (used root : ℕ) → DrawnAs n order t c used root
+      → askedInAll n c root ≡ sumOver (walksAsking n c root) (below n)
   -- what refusal 10 counts for a rule made in a store: no sound cells that keep the older nodes and hold the rule use fewer records
   pub needs : (n : ℕ) (order t : List ℕ) → Fit n order t → (c d : List ℕ) (used more m : ℕ) → sound n order c used ≡ true → sound n order d more ≡ true
       → used ≤ more → ((k : ℕ) → k ≤ used + 1 → tableOf n d k ≡ tableOf n c k) → m ≤ more + 1 → tableOf n d m ≡ t
@@ -135,6 +143,13 @@ pub record AnswersAs (s : State) (c : List ℕ) (m : ℕ) (t : List ℕ) : Type 
 pub record PackedWell (n : ℕ) (t order : List ℕ) (nodes root : ℕ) (d : List ℕ) : Type 0 where
   pub stands : StandsFor n order t d nodes root
   pub fewest : (other cells : List ℕ) (used top : ℕ) → length other ≡ places → fitOrder n other ≡ true → DrawnAs n other t cells used top → nodes ≤ used
+  -- "Of two orders with equal node counts, battery life prefers the one that asks less.": of the orders that draw the table with as many nodes, none's walks
+  -- over all 2^n rows ask fewer flags in total (request 6)
+  pub shortest : (other cells : List ℕ) (top : ℕ) → length other ≡ places → fitOrder n other ≡ true → DrawnAs n other t cells nodes top
+      → askedInAll n d root ≤ askedInAll n cells top
+  -- "and only then goes by dictionary comparison": no order that draws it with as many nodes and asks as many flags stands before this one
+  pub first : (other cells : List ℕ) (top : ℕ) → length other ≡ places → fitOrder n other ≡ true → DrawnAs n other t cells nodes top
+      → askedInAll n cells top ≡ askedInAll n d root → Lex (flags n order) (flags n other)
 
 -- "To bring out a rule is to tabulate it and pack the table, as left, into cells other than the store's, both calls being accepted."
 abbrev pub BroughtOut : State → List ℕ → ℕ → List ℕ → Type 0
@@ -184,12 +199,20 @@ EquallyMany n t =
     (o p : List ℕ) → Fit n o t → Fit n p t → (v : ℕ) → v < n → SameBefore n v o p
     → (c d : List ℕ) (used top more root : ℕ) → DrawnAs n o t c used top → DrawnAs n p t d more root → asking c used v ≡ asking d more v
 
+-- "The number of rows whose walk asks a flag also depends only on that flag and the set asked before it" (request 6): for one rule, and any two orders with
+-- the same set asked before the flag
+abbrev pub EquallyAsked : ℕ → List ℕ → Type 0
+EquallyAsked n t =
+    (o p : List ℕ) → Fit n o t → Fit n p t → (v : ℕ) → v < n → SameBefore n v o p
+    → (c d : List ℕ) (used top more root : ℕ) → DrawnAs n o t c used top → DrawnAs n p t d more root → walksAsking n c top v ≡ walksAsking n d root v
+
 -- what is claimed of a list of calls that has led to state s and cells c, where b is the book before it and es is what it is fed
 pub record AfterList (s : State) (c : List ℕ) (b : Book) (es : List Fed) : Type 0 where
   pub kept : (m : ℕ) (t : List ℕ) → inBook (bookOf b es) m ≡ some t → RuleKept s c m t
   pub rewritten : Throughout Agrees b es
   pub obeyed : Throughout Obeys b es
   pub equally : (n : ℕ) (t : List ℕ) → EquallyMany n t
+  pub equally-asked : (n : ℕ) (t : List ℕ) → EquallyAsked n t
 
 -- Demand 3: one claim about any list of calls that begins with an accepted open, from any state, any cells and any book
 abbrev pub Demand3 : Type 0
@@ -257,14 +280,10 @@ pub record PassRule : Type 0 where
 
 -- ---- the packed order
 
--- of what an accepted pack hands back
-pub record PackedOrder : Type 0 where
-  -- "The order has the fewest nodes of all n! orders;"
-  pub fewest : (n nodes root : ℕ) (t order c w d x : List ℕ) (r : Reply) → Pack n t c w r d x → Gives r (nodes ∷ root ∷ order) → PackedWell n t order nodes root d
-  -- "of several, the one first by dictionary comparison.": no other order that draws the table with as many nodes stands before it
-  pub first : (n nodes root : ℕ) (t order c w d x : List ℕ) (r : Reply) → Pack n t c w r d x → Gives r (nodes ∷ root ∷ order)
-      → (other cells : List ℕ) (top : ℕ) → length other ≡ places → fitOrder n other ≡ true → DrawnAs n other t cells nodes top
-      → Lex (flags n order) (flags n other)
+-- what an accepted pack hands back: "The order has the fewest nodes of all n! orders", and of several it is the one that request 6 names
+abbrev pub PackedOrder : Type 0
+PackedOrder =
+    (n nodes root : ℕ) (t order c w d x : List ℕ) (r : Reply) → Pack n t c w r d x → Gives r (nodes ∷ root ∷ order) → PackedWell n t order nodes root d
 
 -- ---- one sequence (document 02, request 3)
 

@@ -9,11 +9,11 @@ use Prim.Native.String.{String}
 use lib.Dec.{eqb}
 use lib.ListN.{length, getD, replicate}
 use Rattle.rule.specs.Tests.{each, same}
-use Rattle.rule.specs.Level.{size}
-use Rattle.rule.specs.Order.{inPlaces, rising, orders, packed}
+use Rattle.rule.specs.Level.{size, askedTotal, rowsAsking}
+use Rattle.rule.specs.Order.{inPlaces, rising, askedBefore, orders, packed}
 use Rattle.rule.specs.Results.{rootBy, walking, answered}
 use Rattle.rule.specs.Cells.{width, RecordValues, recordCells}
-use Rattle.rule.specs.Walk.{tableOf}
+use Rattle.rule.specs.Walk.{tableOf, walksAsking, askedInAll}
 use Rattle.rule.specs.Diagram.{diagram}
 use Rattle.rule.specs.Sequence.{inSequence, drawing}
 use Rattle.rule.specs.Refusals.{refusal, walkRows}
@@ -43,6 +43,10 @@ pub data Example : Type 0 where
   inEach : String → ℕ → Example
   -- in the order the table has so many nodes
   under : String → String → ℕ → Example
+  -- in the order the walks of so many rows ask the flag
+  rowsAsk : String → String → ℕ → ℕ → Example
+  -- in the order the walks over all rows ask so many flags in total
+  asksInAll : String → String → ℕ → Example
   -- the file is read: so many flags in the rising order, so many nodes, this root
   file : List ℕ → ℕ → ℕ → ℕ → Example
   -- the file is refused under this number
@@ -116,6 +120,13 @@ abbrev pub walkReply : List ℕ → List RecordValues → ℕ → Option ℕ →
 walkReply o rs m pass row =
     reply (refusal (walkRows (length o) (inPlaces o) (recordCells rs) (length rs) m pass row)) (answered (length o) (recordCells rs) (walking m pass row))
 
+-- the table's diagram under the order in just as many cells as it needs, and its root
+abbrev pub drawnCells : List ℕ → List ℕ → List ℕ
+drawnCells o t = drawing (length o) (inPlaces o) t (replicate (size o t * width) 0)
+
+abbrev pub drawnRoot : List ℕ → List ℕ → ℕ
+drawnRoot o t = rootBy (size o t) t
+
 -- a reply has this number and these values
 abbrev pub tells : Reply → ℕ → List ℕ → Bool
 tells r k values = eqb (numberOf r) k && same (valuesOf r) values
@@ -127,6 +138,12 @@ holds (order t o) = same (packedOf t) (digits o)
 holds (asks t v k) = eqb (askingPacked (flagsOf (digits t)) (digits t) v) k
 holds (inEach t k) = each (λ o. eqb (size o (digits t)) k) (orders (flagsOf (digits t)))
 holds (under t o k) = eqb (size (digits o) (digits t)) k
+holds (rowsAsk t o v k) =
+    eqb (rowsAsking (askedBefore v (digits o)) v (digits t)) k
+    && eqb (walksAsking (length (digits o)) (drawnCells (digits o) (digits t)) (drawnRoot (digits o) (digits t)) v) k
+holds (asksInAll t o k) =
+    eqb (askedTotal (digits o) (digits t)) k
+    && eqb (askedInAll (length (digits o)) (drawnCells (digits o) (digits t)) (drawnRoot (digits o) (digits t))) k
 holds (file f n k m) =
     eqb (readNumber (reading lentCells f)) 0 && same (readValues f (reading lentCells f)) (n ∷ k ∷ m ∷ rising n)
 holds (refusedFile f k) = eqb (readNumber (reading lentCells f)) k
@@ -258,4 +275,25 @@ examples =
     ∷ walksUnder "201" majority 5 6 8 6 (0 ∷ 0 ∷ 0 ∷ [])
     -- the pass rule too goes by flags, not by their places: node 4 is flag 2, or flags 1 and 3
     ∷ walksUnder "0213" eitherPair 5 4 4 0 (0 ∷ 3 ∷ 2 ∷ [])
+    -- request 6: the rising order has as few nodes, but its walks ask more flags; the rows that ask each, and what the listing then prints
+    ∷ under "00000111" "012" 3
+    ∷ under "00000111" "201" 3
+    ∷ asksInAll "00000111" "012" 18
+    ∷ asksInAll "00000111" "201" 14
+    ∷ rowsAsk "00000111" "201" 2 8
+    ∷ rowsAsk "00000111" "201" 0 4
+    ∷ rowsAsk "00000111" "201" 1 2
+    ∷ order "00000111" "201"
+    ∷ lists "00000111" "flags 3\nnodes 3\norder 2 0 1\nflag 0 1\nflag 1 1\nflag 2 1\nyes 3\n"
+    -- an order whose walks ask fewer, but that has more nodes, isn't taken
+    ∷ under "1010000001001101" "0213" 6
+    ∷ asksInAll "1010000001001101" "0213" 52
+    ∷ under "1010000001001101" "0312" 7
+    ∷ asksInAll "1010000001001101" "0312" 48
+    ∷ order "1010000001001101" "0213"
+    -- rows count, not paths: the paths of another order ask 34 flags, those of the one that is taken 40, but their rows as many
+    ∷ under "0001110001001010" "2301" 8
+    ∷ asksInAll "0001110001001010" "2301" 52
+    ∷ asksInAll "0001110001001010" "0213" 52
+    ∷ order "0001110001001010" "0213"
     ∷ []

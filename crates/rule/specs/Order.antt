@@ -1,5 +1,5 @@
--- Orders of the flags (document 01, "Tables, orders, nodes", "Packing", refusal 4 and what "The book beside the store" calls asked before). The one asked first
--- stands first.
+-- Orders of the flags (document 01, "Tables, orders, nodes", "Packing", refusal 4 and what "The book beside the store" calls asked before; request 6). The one
+-- asked first stands first.
 -- Assumes nothing.
 use mathlib.Core.Path.{_≡_}
 use mathlib.Core.Logic.{_⊎_}
@@ -10,7 +10,7 @@ use lib.Dec.{eqb, ltb}
 use lib.ListN.{length, take, drop, replicate}
 use Rattle.rule.specs.Bits.{below}
 use Rattle.rule.specs.Tests.{each, keep}
-use Rattle.rule.specs.Level.{size}
+use Rattle.rule.specs.Level.{size, askedTotal}
 
 -- "An order is kept in ten bytes"
 abbrev pub places : ℕ
@@ -92,10 +92,19 @@ unfoldable pub leastOf : (List ℕ → ℕ) → List (List ℕ) → List ℕ
 leastOf cost [] = []
 leastOf cost (o ∷ os) = firstLeast cost o (cost o) os
 
--- what orders are compared by, for a table: the number of nodes
-unfoldable pub rank : List ℕ → List ℕ → ℕ
-rank order t = size order t
+-- the orders of a list that cost just k, in their sequence
+unfoldable pub allAt : (List ℕ → ℕ) → ℕ → List (List ℕ) → List (List ℕ)
+allAt cost k os = keep (λ o. eqb (cost o) k) os
 
--- "The order has the fewest nodes of all n! orders; of several, the one first by dictionary comparison."
+-- all that cost least, in their sequence
+unfoldable pub allLeast : (List ℕ → ℕ) → List (List ℕ) → List (List ℕ)
+allLeast cost os = allAt cost (cost (leastOf cost os)) os
+
+-- "the orders with fewest nodes": of all n! orders, in dictionary order
+unfoldable pub smallest : ℕ → List ℕ → List (List ℕ)
+smallest n t = allLeast (λ o. size o t) (orders n)
+
+-- "Pack now takes, among the orders with fewest nodes, one whose walks over all 2^n rows ask the fewest flags in total, and only then goes by dictionary
+-- comparison." (request 6)
 unfoldable pub packed : ℕ → List ℕ → List ℕ
-packed n t = leastOf (λ o. rank o t) (orders n)
+packed n t = leastOf (λ o. askedTotal o t) (smallest n t)

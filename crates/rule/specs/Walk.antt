@@ -1,11 +1,12 @@
--- Walks, the flags that they ask, and the table of a node (document 01, "Tables, orders, nodes", and request 2).
+-- Walks, the flags that they ask, and the table of a node (document 01, "Tables, orders, nodes", and requests 2 and 6).
 -- Assumes nothing.
 use mathlib.Core.Bool.{cond, true, false}
 use mathlib.Core.List.{List, [], _∷_, map}
-use Prim.Native.Nat.{ℕ, zero, suc}
+use Prim.Native.Nat.{ℕ, zero, suc, _^_}
 use lib.Dec.{eqb}
 use lib.ListN.{length}
-use Rattle.rule.specs.Bits.{bit}
+use Rattle.rule.specs.Bits.{bit, below, sumOver}
+use Rattle.rule.specs.Tests.{keep}
 use Rattle.rule.specs.Table.{tabled}
 use Rattle.rule.specs.Sets.{flagSet}
 use Rattle.rule.specs.Cells.{flagAt, lowAt, highAt, recordOf, isEnd}
@@ -43,3 +44,13 @@ walkValues c m row = walk c m row ∷ flagSet (flagsAsked c m row) ∷ length (f
 -- the table of a node: its walk's answer in each row
 abbrev pub tableOf : ℕ → List ℕ → ℕ → List ℕ
 tableOf n c m = tabled n (walk c m)
+
+-- ---- the walks over all 2^n rows, from node m (request 6)
+
+-- "The number of rows whose walk asks a flag", v
+unfoldable pub walksAsking : ℕ → List ℕ → ℕ → ℕ → ℕ
+walksAsking n c m v = length (keep (λ row. eqb (bit (flagSet (flagsAsked c m row)) v) 1) (below (2 ^ n)))
+
+-- how many flags they "ask .. in total": the sum of the numbers that they hand back
+unfoldable pub askedInAll : ℕ → List ℕ → ℕ → ℕ
+askedInAll n c m = sumOver (λ row. length (flagsAsked c m row)) (below (2 ^ n))

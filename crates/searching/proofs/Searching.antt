@@ -14,25 +14,28 @@ use lib.Pow.{pow-mono, pow-pos}
 use lib.Seq.{length-take-le, getD-set-same, getD-set-other}
 use Rattle.rule.specs.Bits.{bit, setBit}
 use Rattle.rule.specs.Order.{inPlaces}
-use Rattle.rule.specs.Sets.{sets, setAt, stretch, stretchAt}
+use Rattle.rule.specs.Sets.{setSize, sets, setAt, stretch, stretchAt}
 use Rattle.theory.proofs.Bits.{bit-same, bit-other, clear-le, clear-lt}
 use Rattle.theory.specs.Sets.{Follows}
-use Rattle.theory.proofs.Packed.{cost}
 use Rattle.theory.proofs.Search.{bestOf, pickOf, picked, solved, dynamic-packs}
 use Rattle.theory.proofs.Search as search
 use Rattle.theory.proofs.Sets.{full-lt, having-exactly}
 use Rattle.sets.specs.Sequence.{InSequence}
 use Rattle.sets.specs.Post.{SetAt}
 use Rattle.folding.specs.Codes.{Codes}
-use Rattle.folding.proofs.Codes.{codes-table, codes-fold, count-is}
+use Rattle.folding.proofs.Codes.{codes-table, codes-fold, count-is, rows-are}
 use Rattle.stretches.specs.Stretch.{stretchOf, Starts, PartOf}
 use Rattle.stretches.proofs.Stretches.{fits, written-length, written-own}
 use Rattle.costing.specs.Ready.{Ready}
-use Rattle.costing.specs.Choice.{via, Bounded}
+use Rattle.costing.specs.Choice.{nodeWeight, askingCost, via, mostCost, Bounded}
 use Rattle.costing.proofs.Ready.{ready-flag, ready-rest, ready-kept}
-use Rattle.costing.proofs.Choices.{via-most}
+use Rattle.costing.proofs.Choices.{heavy, via-most}
 use Rattle.solving.specs.Solves.{Solves}
 use Rattle.searching.specs.Order.{Asks, Members, Followed, Searched}
+
+-- what the search adds up for a flag
+abbrev cost : ℕ → List ℕ → ℕ → ℕ → ℕ
+cost n t = search.cost nodeWeight n t
 
 -- ---- the sets passed
 
@@ -193,7 +196,7 @@ module _ (n : ℕ) (t : List ℕ) (few : n ≤ 10) (fit : length t ≡ 2 ^ n) wh
 
       -- the cost of asking u first
       via-is-cost : (u : ℕ) → bit S u ≡ 1 → via n y least S u ≡ search.via (cost n t) n S u
-      unfolding via search.via
+      unfolding via askingCost search.via search.cost
       via-is-cost u b =
           let kept = x .folded .others (setBit S u 0) (ready-rest g u refl) (rest-other u b) in
           let c : Codes n t (setBit S u 0) (stretchOf n y (setBit S u 0)) = rw kept (rest-codes u b) in
@@ -201,6 +204,7 @@ module _ (n : ℕ) (t : List ℕ) (few : n ≤ 10) (fit : length t ≡ 2 ^ n) wh
             arith,
             s .least-is (setBit S u 0) (ready-rest g u refl) (rest-done u b),
             count-is n t fit S u few (g .below) (ready-flag g u b) b c own-codes (x .folded .folds .first),
+            rows-are n t fit S u few (g .below) (ready-flag g u b) b c,
           )
 
       -- so the least of all flags is the least of the recursion, and its flag the picked one
@@ -226,7 +230,7 @@ module _ (n : ℕ) (t : List ℕ) (few : n ≤ 10) (fit : length t ≡ 2 ^ n) wh
       first-place : S < length first
       first-place = omega (arith, s .firsts, sets-small few (g .below))
 
-      cost-small : x .cost ≤ S * 1024
+      cost-small : x .cost ≤ setSize S * mostCost
       cost-small = omega (arith, x .cheapest .is, via-most {w = y} (ready-kept g (x .folded .lent)) (s .bounded) (x .flag) (x .cheapest .member))
 
       pub searching-more : Searching n t w₀ y least′ first′ (i + 1)
@@ -259,7 +263,7 @@ module _ (n : ℕ) (t : List ℕ) (few : n ≤ 10) (fit : length t ≡ 2 ^ n) wh
           first-at T k z d (yes q) = rw (q, getD-set-same first S (x .flag) 0 first-place) (chosen .1)
           first-at T k z d (no q) = getD-set-other first S T (x .flag) 0 q ∙ s .first-is T k z (old T q (done-next i T d))
 
-          most-at : (T : ℕ) → T < 2 ^ n → Dec (T ≡ S) → getD (set least S (x .cost)) T 0 ≤ T * 1024
+          most-at : (T : ℕ) → T < 2 ^ n → Dec (T ≡ S) → getD (set least S (x .cost)) T 0 ≤ setSize T * mostCost
           most-at T k (yes q) = rw (q, getD-set-same least S (x .cost) 0 own-place) cost-small
           most-at T k (no q) = rw (getD-set-other least S T (x .cost) 0 q) (s .bounded .most T k)
 
@@ -281,6 +285,6 @@ module _ (n : ℕ) (t : List ℕ) (few : n ≤ 10) (fit : length t ≡ 2 ^ n) wh
     searched l f =
         record {
           order = f .is
-              ∙ ap inPlaces (dynamic-packs n t fit (bestOf (cost n t) n) (pickOf (cost n t) n) (solved (cost n t) n) (f .order) (follows (2 ^ n - 1) (f .order) (full-lt n) (f .asks)) .0);
+              ∙ ap inPlaces (dynamic-packs nodeWeight n t fit (heavy n few) (bestOf (cost n t) n) (pickOf (cost n t) n) (solved (cost n t) n) (f .order) (follows (2 ^ n - 1) (f .order) (full-lt n) (f .asks)) .0);
           lent = s .lent ∙ l;
         }

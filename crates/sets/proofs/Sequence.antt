@@ -18,7 +18,7 @@ use Rattle.theory.proofs.Member.{In, head, tail, not-nil, cases-cons, append-ca
 use Rattle.theory.proofs.Bits.{below-in, in-below}
 use Rattle.theory.proofs.Tests.{keep-in, in-keep}
 use Rattle.theory.proofs.Perm.{Within}
-use Rattle.theory.proofs.Least.{pairwise-append, Rising, rising-from, rising-keep}
+use Rattle.theory.proofs.Least.{pairwise-append, Rising, rising-from, pairwise-keep}
 use Rattle.theory.proofs.Scan.{at-in}
 use Rattle.sets.specs.Sequence.{key, test, InSequence, TestTells}
 use Rattle.sets.specs.Post.{SetAt}
@@ -124,7 +124,7 @@ one-size k (x ∷ l) r e =
 of-size-rises : (k : ℕ) → Rises (ofSize k)
 unfolding ofSize
 of-size-rises k =
-    one-size k (ofSize k) (rising-keep (λ (x : ℕ). eqb (setSize x) k) (below 1024) (rising-from 0 1024)) (λ x m. of-size-in k x m .1)
+    one-size k (ofSize k) (pairwise-keep _<_ (λ (x : ℕ). eqb (setSize x) k) (below 1024) (rising-from 0 1024)) (λ x m. of-size-in k x m .1)
 
 of-sizes-rise : (ks : List ℕ) → Rising ks → Rises (ofSizes ks)
 unfolding ofSizes key

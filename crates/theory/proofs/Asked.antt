@@ -1,32 +1,42 @@
 -- The flags that a walk asks: step by step; that they go by the row's values of those flags alone; and by the table: in cells that draw a rule, a row's walk asks
--- just the flags that the rule, with the flags before them fixed as in the row, depends on, each once.
+-- just the flags that the rule, with the flags before them fixed as in the row, depends on, each once. So the rows whose walk asks a flag are counted by the
+-- table, and so are the flags that all walks ask.
 -- Assumes nothing.
 use mathlib.Core.Path.{_≡_, refl, sym, ap, _∙_}
 use mathlib.Core.Logic.{inl, inr, _↔_}
 use mathlib.Core.Bool.{Bool, true, false, true≢false}
 use mathlib.Core.List.{List, [], _∷_, map}
-use Prim.Native.Nat.{ℕ, zero, suc, _+_, _-_, _≤_, _<_}
+use Prim.Native.Nat.{ℕ, zero, suc, _+_, _-_, _^_, _≤_, _<_}
 use native.Mathlib.Decide.{ℕ-discrete}
 use native.Mathlib.Omega.{arith}
-use borrow.Author.Tests.{lt-ltb, le-ltb}
+use borrow.Author.Tests.{lt-ltb, le-ltb, eqb-true, eq-eqb}
+use lib.Dec.{eqb}
 use lib.ListN.{length}
-use Rattle.rule.specs.Bits.{bit}
-use Rattle.rule.specs.Tests.{addIf}
+use Rattle.rule.specs.Bits.{bit, below, sumOver}
+use Rattle.rule.specs.Tests.{addIf, keep}
 use Rattle.rule.specs.Table.{cofactor, depends, restrict}
+use Rattle.rule.specs.Level.{askedBy, askedTotal, rowsAsking}
 use Rattle.rule.specs.Order.{flags, askedBefore, level}
+use Rattle.rule.specs.Sets.{flagSet}
 use Rattle.rule.specs.Cells.{flagAt, recordOf}
-use Rattle.rule.specs.Walk.{step, walk, passedIn, recordsPassed, flagsAsked, tableOf}
+use Rattle.rule.specs.Walk.{step, walk, passedIn, recordsPassed, flagsAsked, tableOf, walksAsking, askedInAll}
 use Rattle.theory.specs.Child.{childAt}
 use Rattle.theory.specs.Level.{levelOf}
 use Rattle.theory.specs.Shape.{Shaped, Smaller}
 use Rattle.theory.proofs.Member.{In, head, tail, not-nil, cases-cons}
-use Rattle.theory.proofs.Bits.{bit-lt}
-use Rattle.theory.proofs.Perm.{Once, Within, once-length, later}
+use Rattle.theory.proofs.Bits.{in-below, bit-lt}
+use Rattle.theory.proofs.Tests.{same-bool, keep-same, keep-in, in-keep}
+use Rattle.theory.proofs.Perm.{Once, Within, once-length, once-set, once-keep, once-from, later}
+use Rattle.theory.proofs.FlagSet.{set-in}
+use Rattle.theory.proofs.Scan.{more}
+use Rattle.theory.proofs.Sums.{sum-same, sum-exchange, sum-count}
+use Rattle.theory.proofs.Rows.{friedman-rows}
 use Rattle.theory.proofs.Sets.{Order}
 use Rattle.theory.proofs.Orders.{order-length}
-use Rattle.theory.proofs.Levels.{Turn, level-lt, asked-here, asked-there, whole-turn}
-use Rattle.theory.proofs.Walks.{node, smaller, nodes, step-child, step-is, walk-end, walk-record, at-record}
+use Rattle.theory.proofs.Levels.{Turn, level-lt, asked-here, asked-there, same-before, whole-turn}
+use Rattle.theory.proofs.Walks.{node, smaller, nodes, step-child, step-is, walk-end, walk-record, at-record, length-table}
 use Rattle.theory.proofs.Canonical.{level-record, child-later, child-le, ignores, node-ignores, record-child, asks}
+use Rattle.theory.proofs.Reach.{Diagram}
 use Rattle.theory.proofs.Descents.{child-cases}
 
 -- ---- step by step
@@ -88,11 +98,6 @@ passed-alike {c} s row other =
     ))
 
 -- ---- the same by the table
-
--- of the flags vs, asked in turn, those that the table depends on when their turn comes; each is then fixed as in the row
-unfoldable pub askedBy : List ℕ → List ℕ → ℕ → List ℕ
-askedBy [] t row = []
-askedBy (v ∷ vs) t row = addIf (depends v t) v (askedBy vs (cofactor v (bit row v) t) row)
 
 module _ {n used : ℕ} {order c : List ℕ} (s : Shaped n order c used) (o : Order n (flags n order)) (row : ℕ) where
   asked-turns : (vs : List ℕ) (l m : ℕ) → Turn n (flags n order) l vs → l + length vs ≡ n → l ≤ levelOf n order c m → m ≤ used + 1
@@ -191,3 +196,57 @@ module _ {n used : ℕ} {order c : List ℕ} (s : Shaped n order c used) (o : Or
         (v<n, by-in v (flags n order) (tableOf n c m) row (o .once) (o .whole v v<n) .0 (rw (asked-by s o row m h) at i)),
     λ (v<n, d). rw (asked-by s o row m h) (by-in v (flags n order) (tableOf n c m) row (o .once) (o .whole v v<n) .1 d),
   )
+
+-- ---- over all rows
+
+module _ {n used : ℕ} {order c : List ℕ} (s : Shaped n order c used) (o : Order n (flags n order)) (m : ℕ) (h : m ≤ used + 1) where
+  -- the rows whose walk asks v
+  pub walks-asking : (v : ℕ) → v < n → walksAsking n c m v ≡ rowsAsking (askedBefore v (flags n order)) v (tableOf n c m)
+  unfolding walksAsking rowsAsking
+  walks-asking v v<n =
+      rw (length-table n c m)
+      (ap length
+      (keep-same (λ (r : ℕ). eqb (bit (flagSet (flagsAsked c m r)) v) 1) (λ (r : ℕ). depends v (restrict (askedBefore v (flags n order)) r (tableOf n c m)))
+      (below (2 ^ n))
+      (λ r i.
+      let (a, b) = asked-in s o m h r v in
+      same-bool _ _
+      (λ e. a (set-in (flagsAsked c m r) v .0 (eqb-true _ 1 e)) .1)
+      (λ e. eq-eqb _ 1 (set-in (flagsAsked c m r) v .1 (b (v<n, e)))))))
+
+  -- and the flags that all walks ask
+  pub asked-in-all : askedInAll n c m ≡ askedTotal (flags n order) (tableOf n c m)
+  unfolding askedInAll askedTotal
+  asked-in-all =
+      sum-same (λ r. length (flagsAsked c m r)) (λ r. length (askedBy (flags n order) (tableOf n c m) r)) (below (2 ^ n)) (λ r. ap length (asked-by s o r m h))
+      ∙ ap (λ (k : ℕ). sumOver (λ r. length (askedBy (flags n order) (tableOf n c m) r)) (below k)) (sym (length-table n c m))
+
+  -- the list of the flags asked has each once, so it is as long as their set is large
+  flag-count : (r : ℕ) → length (flagsAsked c m r) ≡ length (keep (λ v. eqb (bit (flagSet (flagsAsked c m r)) v) 1) (below n))
+  flag-count r =
+      once-set (flagsAsked c m r) (keep isAsked (below n)) (asked-once-each s o m h r) (once-keep isAsked (below n) (once-from 0 n))
+      (λ v i. in-keep isAsked (below n) (in-below (o .sound v (asked-flags s o m h r v i))) (eq-eqb _ 1 (set-in (flagsAsked c m r) v .1 i)))
+      (λ v i. set-in (flagsAsked c m r) v .0 (eqb-true _ 1 (keep-in isAsked (below n) i .1)))
+    where
+      isAsked : ℕ → Bool
+      isAsked v = eqb (bit (flagSet (flagsAsked c m r)) v) 1
+
+  -- so the total is the sum over the flags of the rows that ask each
+  pub asked-by-flag : askedInAll n c m ≡ sumOver (walksAsking n c m) (below n)
+  unfolding askedInAll walksAsking
+  asked-by-flag =
+      sum-same (λ r. length (flagsAsked c m r)) (λ r. sumOver (λ v. more (eqb (bit (flagSet (flagsAsked c m r)) v) 1)) (below n)) (below (2 ^ n))
+      (λ r. flag-count r ∙ sym (sum-count (λ v. eqb (bit (flagSet (flagsAsked c m r)) v) 1) (below n)))
+      ∙ sum-exchange (λ r v. more (eqb (bit (flagSet (flagsAsked c m r)) v) 1)) (below (2 ^ n)) (below n)
+      ∙ sum-same _ (walksAsking n c m) (below n) (λ v. sum-count (λ r. eqb (bit (flagSet (flagsAsked c m r)) v) 1) (below (2 ^ n)))
+
+-- Friedman's lemma of walks: as many rows' walks ask a flag under all orders that ask the same flags before it
+pub friedman-walks : {n used used′ root root′ : ℕ} {order order′ c d : List ℕ} → Diagram n order c used root → Diagram n order′ d used′ root′
+    → Order n (flags n order) → Order n (flags n order′) → tableOf n c root ≡ tableOf n d root′ → (v : ℕ) → v < n
+    → Within (askedBefore v (flags n order)) (askedBefore v (flags n order′)) → Within (askedBefore v (flags n order′)) (askedBefore v (flags n order))
+    → walksAsking n c root v ≡ walksAsking n d root′ v
+friedman-walks {n} {root} {root′} {order′} {c} x y o o′ e v hv w w′ =
+    walks-asking (x .cells) o root (x .root-is) v hv
+    ∙ same-before o o′ v w w′ (λ l. rowsAsking l v (tableOf n c root)) (friedman-rows n (tableOf n c root) (length-table n c root) v)
+    ∙ ap (rowsAsking (askedBefore v (flags n order′)) v) e
+    ∙ sym (walks-asking (y .cells) o′ root′ (y .root-is) v hv)

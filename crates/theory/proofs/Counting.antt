@@ -21,7 +21,7 @@ use Rattle.theory.proofs.Perm.{once-map, Once, Within, once-set, once-k
 use Rattle.theory.proofs.Friedman.{level-in, in-level, level-once, friedman-set}
 use Rattle.theory.proofs.Sets.{Order}
 use Rattle.theory.specs.Shape.{Shaped}
-use Rattle.theory.proofs.Levels.{asked-exactly, asked-turn}
+use Rattle.theory.proofs.Levels.{same-before, asked-turn}
 use Rattle.theory.proofs.Nodes.{nodes-is, nodes-once}
 use Rattle.theory.proofs.Walks.{length-table}
 use Rattle.theory.proofs.Reach.{Diagram}
@@ -127,10 +127,8 @@ pub friedman-asking : {n used used′ root root′ : ℕ} {order order′ c d : 
     → Within (askedBefore v (flags n order)) (askedBefore v (flags n order′)) → Within (askedBefore v (flags n order′)) (askedBefore v (flags n order))
     → asking c used v ≡ asking d used′ v
 friedman-asking {n} {root} {order} {order′} {c} x y o o′ e v hv w w′ =
-    let a = asked-exactly o v in
     asking-level x o v hv
-    ∙ friedman-set n (askedBefore v (flags n order)) (askedBefore v (flags n order′)) (a .once) (asked-exactly o′ v .once) w w′ (λ i m. a .sound i m .0)
-    (tableOf n c root) (length-table n c root) v
+    ∙ same-before o o′ v w w′ (λ l. levelCount l v (tableOf n c root)) (friedman-set n (tableOf n c root) (length-table n c root) v)
     ∙ ap (levelCount (askedBefore v (flags n order′)) v) e
     ∙ sym (asking-level y o′ v hv)
 

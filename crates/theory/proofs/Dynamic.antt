@@ -4,9 +4,10 @@
 use mathlib.Core.Path.{_≡_, refl, sym, ap, ap₂, _∙_, subst}
 use mathlib.Core.Logic.{_≢_, _⊎_, inl, inr}
 use mathlib.Core.List.{List, [], _∷_}
-use Prim.Native.Nat.{ℕ, _+_, _≤_, _<_}
-use native.Mathlib.Nat.{eq-or-lt-of-le, le-trans}
+use Prim.Native.Nat.{ℕ, _+_, _*_, _≤_, _<_}
+use native.Mathlib.Nat.{add-mul, eq-or-lt-of-le, le-trans}
 use native.Mathlib.Omega.{arith}
+use lib.ListN.{length}
 use Rattle.rule.specs.Bits.{bit, setBit}
 use Rattle.rule.specs.Order.{Lex}
 use Rattle.theory.specs.Sets.{Follows}
@@ -48,6 +49,11 @@ module _ (c : ℕ → ℕ → ℕ) where
   abbrev pub total : ℕ → List ℕ → ℕ
   total S [] = 0
   total S (v ∷ o) = c S v + total (setBit S v 0) o
+
+  -- no more than so much for each flag
+  pub total-most : (k : ℕ) → ((S v : ℕ) → c S v ≤ k) → (S : ℕ) (o : List ℕ) → total S o ≤ length o * k
+  total-most k h S [] = omega arith
+  total-most k h S (v ∷ o) = omega (arith, h S v, total-most k h (setBit S v 0) o, add-mul 1 (length o) k)
 
   -- o is, of all orders of the flags of S, the dictionary-first of those that cost least
   pub record IsLeast (S : ℕ) (o : List ℕ) : Type 0 where
@@ -103,3 +109,8 @@ module _ (c : ℕ → ℕ → ℕ) where
     follows-least S o b f =
         let e = follows-total S o b f in
         (record { lists = follows-lists S o b f; least = λ p l. rw e (lower S p b l); first = λ p l q. follows-first S o p b f l (q ∙ e) }, e)
+
+-- two costs in one number, in which the first weighs w
+pub total-weighed : (a b : ℕ → ℕ → ℕ) (w S : ℕ) (o : List ℕ) → total (λ S v. a S v * w + b S v) S o ≡ total a S o * w + total b S o
+total-weighed a b w S [] = omega arith
+total-weighed a b w S (v ∷ o) = omega (arith, add-mul (a S v) (total a (setBit S v 0) o) w, total-weighed a b w (setBit S v 0) o)

@@ -70,6 +70,10 @@ level-once before v t = distinct-once (keep (depends v) (fixings before t))
 
 -- ---- the lemma, for two lists without repeats that have the same members below n
 
+-- a number that goes by the set of the flags of a list, not by their sequence
+abbrev pub BySet : ℕ → (List ℕ → ℕ) → Type 0
+BySet n f = (l m : List ℕ) → Once l → Once m → Within l m → Within m l → Flags n l → f l ≡ f m
+
 module _ (n : ℕ) (before before′ : List ℕ) (o : Once before) (o′ : Once before′) (w : Within before before′) (w′ : Within before′ before)
     (small : Flags n before) (t : List ℕ) (fit : length t ≡ 2 ^ n) where
   -- the same tables arise
@@ -81,9 +85,8 @@ module _ (n : ℕ) (before before′ : List ℕ) (o : Once before) (o′ : Once 
   friedman-nodes v u m = let k = level-in before v t m in in-level before′ v t (fixings-set u (k .0)) (k .1)
 
 -- and equally many
-pub friedman-set : (n : ℕ) (before before′ : List ℕ) → Once before → Once before′ → Within before before′ → Within before′ before → Flags n before
-    → (t : List ℕ) → length t ≡ 2 ^ n → (v : ℕ) → levelCount before v t ≡ levelCount before′ v t
-friedman-set n before before′ o o′ w w′ small t fit v =
+pub friedman-set : (n : ℕ) (t : List ℕ) → length t ≡ 2 ^ n → (v : ℕ) → BySet n (λ l. levelCount l v t)
+friedman-set n t fit v before before′ o o′ w w′ small =
     once-set (levelNodes before v t) (levelNodes before′ v t) (level-once before v t) (level-once before′ v t)
     (friedman-nodes n before before′ o o′ w w′ small t fit v)
     (friedman-nodes n before′ before o′ o w′ w (λ i m. small i (w′ i m)) t fit v)

@@ -36,6 +36,15 @@ module _ {A : Type 0} {R : A → A → Type 0} where
     pairwise-append xs ys (p .1) q (λ z y mz my. h z y (tail mz) my),
   )
 
+pub pairwise-keep : {A : Type 0} (R : A → A → Type 0) (p : A → Bool) (xs : List A) → Pairwise R xs → Pairwise R (keep p xs)
+unfolding keep
+pairwise-keep R p [] r = tt
+pairwise-keep R p (x ∷ xs) r = go (p x) (pairwise-keep R p xs (r .1))
+  where
+    go : (b : Bool) → Pairwise R (keep p xs) → Pairwise R (addIf b x (keep p xs))
+    go true k = (λ y m. r .0 y (keep-in p xs m .0), k)
+    go false k = k
+
 -- the list rises
 abbrev pub Rising : List ℕ → Type 0
 Rising vs = Pairwise _<_ vs
@@ -44,15 +53,6 @@ pub rising-from : (a k : ℕ) → Rising (from a k)
 unfolding from
 rising-from a zero = tt
 rising-from a (suc k) = (λ u m. from-in (suc a) k u m .0, rising-from (suc a) k)
-
-pub rising-keep : (p : ℕ → Bool) (vs : List ℕ) → Rising vs → Rising (keep p vs)
-unfolding keep
-rising-keep p [] r = tt
-rising-keep p (v ∷ vs) r = go (p v) (rising-keep p vs (r .1))
-  where
-    go : (b : Bool) → Rising (keep p vs) → Rising (addIf b v (keep p vs))
-    go true k = (λ u m. r .0 u (keep-in p vs m .0), k)
-    go false k = k
 
 -- ---- the first that costs least
 

@@ -13,6 +13,7 @@ use lib.ListN.{length, getD, take, drop, length-append}
 use lib.Seq.{append-snoc, getD-append-seam, getD-take, split-at, take-suc, length-take-le}
 use Rattle.rule.specs.Order.{flags, askedBefore, level}
 use Rattle.theory.proofs.Perm.{Once, Within, Exactly, later}
+use Rattle.theory.proofs.Friedman.{BySet}
 use Rattle.theory.proofs.Sets.{Order}
 use Rattle.theory.proofs.Orders.{order-length}
 
@@ -107,6 +108,13 @@ module _ {n : ℕ} {o : List ℕ} (p : Order n o) where
         sound = λ i m. (p .sound i (asked-within v o i m), asked-lower i v o .0 m);
         whole = λ i h. asked-lower i v o .1 (h .1);
       }
+
+  -- what goes by the set of the flags before v is the same for another order that has the same flags before v
+  pub same-before : {o′ : List ℕ} → Order n o′ → (v : ℕ) → Within (askedBefore v o) (askedBefore v o′) → Within (askedBefore v o′) (askedBefore v o)
+      → (f : List ℕ → ℕ) → BySet n f → f (askedBefore v o) ≡ f (askedBefore v o′)
+  same-before {o′} q v w w′ f same =
+      let a = asked-exactly v in
+      same (askedBefore v o) (askedBefore v o′) (a .once) (asked-once v o′ (q .once)) w w′ (λ i m. a .sound i m .0)
 
   -- the flags of an order stand at their levels in turn
   pub order-turn : (q vs r : List ℕ) → o ≡ q ++ (vs ++ r) → Turn n o (length q) vs

@@ -9,12 +9,16 @@ pub mod Distinct
 pub mod Cofactor
 pub mod Friedman
 pub mod FlagSet
+pub mod Scan
+pub mod Sums
+pub mod Restrict
+pub mod Rows
+pub mod Halves
 pub mod Dynamic
 pub mod Sets
 pub mod Packed
 pub mod Orders
 pub mod Search
-pub mod Scan
 pub mod Times
 pub mod Shape
 pub mod Sound
@@ -38,7 +42,6 @@ pub mod Drawing
 pub mod Renumbered
 pub mod Needed
 pub mod Growth
-pub mod Restrict
 pub mod Apply
 pub mod Refused
 pub mod Pass

@@ -12,17 +12,17 @@ use lib.ListN.{length, getD, take, drop, replicate, length-take, length-drop, le
 use lib.Seq.{take-at, getD-append-add, getD-drop}
 use borrow.Author.Tests.{eqb-true, eq-eqb}
 use Rattle.rule.specs.Bits.{below}
-use Rattle.rule.specs.Level.{size}
+use Rattle.rule.specs.Level.{size, askedTotal}
 use Rattle.rule.specs.Tests.{keep}
-use Rattle.rule.specs.Order.{places, flags, times, eachOnce, restZero, fitOrder, Lex, inPlaces, rising, picks, gather, ordersOf, orders, leastOf, rank, packed}
+use Rattle.rule.specs.Order.{places, flags, times, eachOnce, restZero, fitOrder, Lex, inPlaces, rising, picks, gather, ordersOf, orders, leastOf, allAt, allLeast, smallest, packed}
 use Rattle.theory.proofs.Member.{In, head, tail, not-nil, cases-cons, append-cases, eq-of-singleton, cast, append-left, append-right, in-map, map-in, Perm, cons, swap, trans, perm-refl}
 use Rattle.theory.proofs.Bits.{length-from, below-in, in-below}
 use Rattle.theory.proofs.Tests.{and-split, and-join, each-in, each-at, at-each, below-each, keep-in, in-keep}
 use Rattle.theory.proofs.Perm.{Once, Within, Exactly, exactly-iff, later, perm-in, perm-back, perm-length, perm-once, perm-of-length, once-set, once-keep, once-from}
-use Rattle.theory.proofs.Least.{Pairwise, pairwise-map, pairwise-append, Rising, rising-from, first-of, first-least}
+use Rattle.theory.proofs.Least.{Pairwise, pairwise-map, pairwise-append, pairwise-keep, Rising, rising-from, IsFirst, first-of, first-least}
 use Rattle.theory.proofs.Dynamic.{lex-refl, lex-trans}
 use Rattle.theory.proofs.Sets.{Order}
-use Rattle.theory.proofs.Packed.{IsPacked, fewest, first-of-fewest}
+use Rattle.theory.proofs.Packed.{IsPacked}
 
 -- ---- one flag taken out of a list
 
@@ -176,33 +176,52 @@ orders-are n o = (
 below-order : (n : ℕ) → Order n (below n)
 below-order n = record { once = once-from 0 n; sound = λ i m. below-in m; whole = λ i h. in-below h }
 
+module _ (cost : List ℕ → ℕ) where
+  -- the first that costs least, of a list that has a member
+  least-of : (os : List (List ℕ)) → Sorted os → {o : List ℕ} → In o os → IsFirst cost Lex os (leastOf cost os)
+  unfolding leastOf
+  least-of [] s m = absurd (not-nil m)
+  least-of (o ∷ os) s m = rw (first-least cost o os) (first-of cost Lex lex-refl lex-trans o os s)
+
+  -- `allLeast` has just the members that cost as much as it, in their sequence
+  all-least-in : (os : List (List ℕ)) {o : List ℕ} → In o (allLeast cost os) → In o os × (cost o ≡ cost (leastOf cost os))
+  unfolding allLeast allAt
+  all-least-in os {o} m =
+      let (k, e) = keep-in (λ o. eqb (cost o) (cost (leastOf cost os))) os m in
+      (k, eqb-true (cost o) (cost (leastOf cost os)) e)
+
+  in-all-least : (os : List (List ℕ)) {o : List ℕ} → In o os → cost o ≡ cost (leastOf cost os) → In o (allLeast cost os)
+  unfolding allLeast allAt
+  in-all-least os {o} m e = in-keep (λ o. eqb (cost o) (cost (leastOf cost os))) os m (eq-eqb (cost o) (cost (leastOf cost os)) e)
+
+  all-least-sorted : (os : List (List ℕ)) → Sorted os → Sorted (allLeast cost os)
+  unfolding allLeast allAt
+  all-least-sorted os s = pairwise-keep Lex (λ o. eqb (cost o) (cost (leastOf cost os))) os s
+
 -- the definition gives the packed order
 pub packed-is : (n : ℕ) (t : List ℕ) → IsPacked n t (packed n t)
-unfolding packed leastOf
-packed-is n t = go (orders n) refl
+unfolding packed smallest
+packed-is n t =
+    let s : Sorted (orders n) = orders-sorted n (below n) (rising-from 0 n) in
+    let a = least-of nodes (orders n) s (orders-are n (below n) .1 (below-order n)) in
+    let b = least-of asked (allLeast nodes (orders n)) (all-least-sorted nodes (orders n) s) (in-all-least nodes (orders n) (a .member) refl) in
+    let (m, e) = all-least-in nodes (orders n) (b .member) in
+    record {
+      order = orders-are n _ .0 m;
+      fewest = λ p q. omega (arith, e, a .least p (orders-are n p .1 q));
+      least = λ p q z. b .least p (in-all-least nodes (orders n) (orders-are n p .1 q) (z ∙ e));
+      first = λ p q z y. b .first p (in-all-least nodes (orders n) (orders-are n p .1 q) (z ∙ e)) y;
+    }
   where
-    cost : List ℕ → ℕ
-    cost o = rank o t
+    nodes : List ℕ → ℕ
+    nodes o = size o t
 
-    go : (os : List (List ℕ)) → orders n ≡ os → IsPacked n t (leastOf cost os)
-    go [] e = absurd (not-nil (rw e at (orders-are n (below n) .1 (below-order n))))
-    go (o ∷ os) e =
-        let s : Sorted (o ∷ os) = rw e at (orders-sorted n (below n) (rising-from 0 n)) in
-        let f = first-of cost Lex lex-refl lex-trans o os s in
-        rw (first-least cost o os)
-        (record {
-          order = orders-are n _ .0 (rw e (f .member));
-          lowest = λ p q. f .least p (rw e at (orders-are n p .1 q));
-          first = λ p q z. f .first p (rw e at (orders-are n p .1 q)) z;
-        })
+    asked : List ℕ → ℕ
+    asked o = askedTotal o t
 
 -- no order draws a table with fewer nodes than the packed one
 pub packed-fewest : (n : ℕ) (t o : List ℕ) → Order n o → size (packed n t) t ≤ size o t
-packed-fewest n t o p = fewest n t (packed n t) (packed-is n t) o p
-
--- and of those that draw it with as many it stands first in the dictionary
-pub packed-first : (n : ℕ) (t o : List ℕ) → Order n o → size o t ≡ size (packed n t) t → Lex (packed n t) o
-packed-first n t o p e = first-of-fewest n t (packed n t) (packed-is n t) o p e
+packed-fewest n t o p = packed-is n t .fewest o p
 
 -- ---- orders in their ten places
 

@@ -8,11 +8,11 @@ use native.Mathlib.Omega.{arith}
 use lib.ListN.{length, getD}
 use Rattle.rule.specs.Bits.{bit, setBit}
 use Rattle.rule.specs.Table.{cofactor, fixings, restrict}
-use Rattle.theory.proofs.Member.{In, head, tail, not-nil}
+use Rattle.theory.proofs.Member.{In, head, tail, not-nil, Perm, nil, cons, swap, trans}
 use Rattle.theory.proofs.Bits.{bit-lt, bit-same, bit-other, bits-eq, setBit-lt}
-use Rattle.theory.proofs.Cofactor.{length-cofactor, cofactor-row}
+use Rattle.theory.proofs.Cofactor.{length-cofactor, cofactor-row, cofactor-comm}
 use Rattle.theory.proofs.Friedman.{Flags, branch}
-use Rattle.theory.proofs.Perm.{later}
+use Rattle.theory.proofs.Perm.{Once, Within, later, perm-back, perm-of-set}
 
 pub length-restrict : (vs : List ℕ) (row : ℕ) (t : List ℕ) → length (restrict vs row t) ≡ length t
 unfolding restrict
@@ -38,6 +38,41 @@ restrict-agree [] row rest t f = refl
 restrict-agree (v ∷ vs) row rest t f =
     restrict-agree vs row rest (cofactor v (bit row v) t) (λ i m. f i (tail m))
     ∙ ap (λ (b : ℕ). restrict vs rest (cofactor v b t)) (f v (head refl))
+
+-- ---- in any sequence
+
+restrict-swap : (n row i j : ℕ) (l t : List ℕ) → length t ≡ 2 ^ n → i < n → j < n → restrict (i ∷ j ∷ l) row t ≡ restrict (j ∷ i ∷ l) row t
+unfolding restrict
+restrict-swap n row i j l t fit i<n j<n = go (ℕ-discrete i j)
+  where
+    go : Dec (i ≡ j) → restrict (i ∷ j ∷ l) row t ≡ restrict (j ∷ i ∷ l) row t
+    go (yes e) = rw e
+    go (no d) =
+        ap (restrict l row) (cofactor-comm n t fit j i (bit row j) (bit row i) j<n i<n (bit-lt row j) (bit-lt row i) (λ e. d (sym e)))
+
+restrict-perm : (n row : ℕ) {l m : List ℕ} → Perm l m → Flags n l → (t : List ℕ) → length t ≡ 2 ^ n → restrict l row t ≡ restrict m row t
+unfolding restrict
+restrict-perm n row nil small t fit = refl
+restrict-perm n row (cons {a = a} {b = a′} {l₁ = l} {l₂ = m} e p) small t fit =
+    restrict-perm n row p (λ i q. small i (tail q)) (cofactor a (bit row a) t) (length-cofactor a (bit row a) t ∙ fit)
+    ∙ ap (λ (i : ℕ). restrict m row (cofactor i (bit row i) t)) e
+restrict-perm n row (swap {a = a} {b = b} {a′ = b′} {b′ = a′} {l = l} e e′) small t fit =
+    rw (← e, ← e′) (restrict-swap n row a b l t fit (small a (head refl)) (small b (tail (head refl))))
+restrict-perm n row (trans p q) small t fit =
+    restrict-perm n row p small t fit ∙ restrict-perm n row q (λ i r. small i (perm-back p i r)) t fit
+
+-- the rule left by fixing flags as in a row goes by their set
+pub restrict-set : (n row : ℕ) (before before′ : List ℕ) → Once before → Once before′ → Within before before′ → Within before′ before → Flags n before
+    → (t : List ℕ) → length t ≡ 2 ^ n → restrict before row t ≡ restrict before′ row t
+restrict-set n row before before′ o o′ w w′ small t fit = restrict-perm n row (perm-of-set before before′ o o′ w w′) small t fit
+
+-- one flag more, fixed after the others or before them
+pub restrict-next : (n row v : ℕ) (l t : List ℕ) → length t ≡ 2 ^ n → v < n → Flags n l → cofactor v (bit row v) (restrict l row t) ≡ restrict (v ∷ l) row t
+unfolding restrict
+restrict-next n row v [] t fit v<n f = refl
+restrict-next n row v (u ∷ l) t fit v<n f =
+    restrict-next n row v l (cofactor u (bit row u) t) (length-cofactor u (bit row u) t ∙ fit) v<n (λ i m. f i (tail m))
+    ∙ restrict-swap n row u v l t fit (f u (head refl)) v<n
 
 -- ---- every flag fixed
 

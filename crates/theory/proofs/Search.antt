@@ -1,23 +1,27 @@
--- The recursion over sets as a function, for any cost: it solves the recursion, so for the rank of orders it finds `packed`.
+-- The recursion over sets as a function, for any cost: it solves the recursion. So it finds `packed`, where it adds up nodes and flags asked in one number in
+-- which a node weighs more than all that walks can ask.
 -- Assumes nothing.
-use mathlib.Core.Path.{_≡_, refl, sym, ap, _∙_}
+use mathlib.Core.Path.{_≡_, refl, sym, ap, ap₂, _∙_}
 use mathlib.Core.Logic.{_≢_}
 use mathlib.Core.List.{List, [], _∷_}
-use Prim.Native.Nat.{ℕ, zero, suc, _+_, _-_, _^_, _≤_, _<_}
-use native.Mathlib.Nat.{le-refl, le-trans, le-of-lt, not-suc-le-zero}
+use Prim.Native.Nat.{ℕ, zero, suc, _+_, _-_, _*_, _^_, _≤_, _<_}
+use native.Mathlib.Nat.{add-mul, le-refl, le-trans, le-of-lt, mul-le-mul-right, not-suc-le-zero}
+use native.Mathlib.Decide.{decLt}
 use native.Mathlib.Omega.{arith}
 use lib.ListN.{length}
 use Rattle.rule.specs.Bits.{bit, setBit}
-use Rattle.rule.specs.Order.{rank, packed}
+use Rattle.rule.specs.Level.{size, askedTotal}
+use Rattle.rule.specs.Order.{packed}
 use Rattle.theory.proofs.Member.{In, head, not-nil}
 use Rattle.theory.proofs.Bits.{bit-zero, clear-lt}
 use Rattle.theory.proofs.Perm.{Exactly}
 use Rattle.theory.proofs.Least.{Pairwise, Rising, firstOf, IsFirst, first-of}
 use Rattle.theory.specs.Sets.{Follows, having}
-use Rattle.theory.proofs.Dynamic.{Solved, IsLeast, follows-least}
-use Rattle.theory.proofs.Sets.{full-lt, member-lt, empty, having-exactly, having-rising}
-use Rattle.theory.proofs.Packed.{cost, packs, packed-one}
-use Rattle.theory.proofs.Orders.{packed-is}
+use Rattle.theory.proofs.Dynamic.{total, total-most, total-weighed, Solved, IsLeast, follows-least}
+use Rattle.theory.proofs.Sets.{full-lt, member-lt, empty, having-exactly, having-rising, Order, lists-order, order-lists}
+use Rattle.theory.proofs.Packed.{IsPacked, packed-one, nodeCost, rowCost, size-total, rows-total}
+use Rattle.theory.proofs.Rows.{rows-most}
+use Rattle.theory.proofs.Orders.{packed-is, order-length}
 
 -- ---- the smallest of a rising list of flags at which f is least, and its value there
 
@@ -150,17 +154,53 @@ module _ (c : ℕ → ℕ → ℕ) (n : ℕ) where
   pub dynamic-least : IsLeast c (2 ^ n - 1) dynamic
   dynamic-least = follows-least c (2 ^ n - 1) bestOf pickOf solved (2 ^ n - 1) dynamic (le-refl _) dynamic-follows .0
 
--- ---- for the rank of orders
+-- ---- for nodes and flags asked
 
-module _ (n : ℕ) (t : List ℕ) (fit : length t ≡ 2 ^ n) where
-  -- any solution of the recursion finds `packed`
-  pub dynamic-packs : (best pick : ℕ → ℕ) → Solved (cost n t) (2 ^ n - 1) best pick → (o : List ℕ) → Follows pick (2 ^ n - 1) o
-      → (o ≡ packed n t) × (rank (packed n t) t ≡ best (2 ^ n - 1))
+-- both costs in one number, in which a node weighs w
+unfoldable pub cost : ℕ → ℕ → List ℕ → ℕ → ℕ → ℕ
+cost w n t S v = nodeCost n t S v * w + rowCost n t S v
+
+-- what is less than a node weighs never makes up for one
+weighs-more : (w x y a b : ℕ) → x * w + a ≤ y * w + b → b < w → x ≤ y
+weighs-more w x y a b h l =
+    elim (decLt y x) [ yes k ↦ absurd (omega (arith, mul-le-mul-right {m = suc y} {n = x} w k, add-mul 1 y w)) | no d ↦ omega arith ]
+
+module _ (w n : ℕ) (t : List ℕ) (fit : length t ≡ 2 ^ n) (heavy : n * 2 ^ n < w) where
+  -- no order's walks ask as many flags as a node weighs
+  asked-lt : (o : List ℕ) → Order n o → askedTotal o t < w
+  asked-lt o p =
+      let most : (S v : ℕ) → rowCost n t S v ≤ 2 ^ n = λ S v. unfold rowCost in rw (← fit) (rows-most (having 0 n S) v t) in
+      let k : total (rowCost n t) (2 ^ n - 1) o ≤ n * 2 ^ n = rw (order-length n o p) at (total-most (rowCost n t) (2 ^ n) most (2 ^ n - 1) o) in
+      omega (arith, rows-total n t fit o p)
+
+  -- what an order costs
+  weighed : (o : List ℕ) → Order n o → total (cost w n t) (2 ^ n - 1) o ≡ size o t * w + askedTotal o t
+  unfolding cost
+  weighed o p =
+      total-weighed (nodeCost n t) (rowCost n t) w (2 ^ n - 1) o
+      ∙ ap₂ (λ (x y : ℕ). x * w + y) (sym (size-total n t fit o p)) (sym (rows-total n t fit o p))
+
+  -- so the first of the orders that cost least is packed
+  least-packed : (o : List ℕ) → IsLeast (cost w n t) (2 ^ n - 1) o → IsPacked n t o
+  least-packed o l =
+      let a = lists-order n o (l .lists) in
+      let low : (p : List ℕ) → Order n p → size o t * w + askedTotal o t ≤ size p t * w + askedTotal p t =
+      λ p b. rw (← weighed o a, ← weighed p b) (l .least p (order-lists n p b)) in
+      record {
+        order = a;
+        fewest = λ p b. weighs-more w (size o t) (size p t) (askedTotal o t) (askedTotal p t) (low p b) (asked-lt p b);
+        least = λ p b e. omega (arith, low p b, ap (λ (x : ℕ). x * w) e);
+        first = λ p b e f. l .first p (order-lists n p b) (weighed p b ∙ ap₂ (λ (x y : ℕ). x * w + y) e f ∙ sym (weighed o a));
+      }
+
+  -- any solution of the recursion finds `packed`, and what it costs
+  pub dynamic-packs : (best pick : ℕ → ℕ) → Solved (cost w n t) (2 ^ n - 1) best pick → (o : List ℕ) → Follows pick (2 ^ n - 1) o
+      → (o ≡ packed n t) × (size (packed n t) t * w + askedTotal (packed n t) t ≡ best (2 ^ n - 1))
   dynamic-packs best pick s o f =
-      let (p, e) = packs n t fit best pick s o f in
-      let q = packed-one n t o (packed n t) p (packed-is n t) in
-      (q, rw q at e)
+      let (l, e) = follows-least (cost w n t) (2 ^ n - 1) best pick s (2 ^ n - 1) o (le-refl _) f in
+      let q = packed-one n t o (packed n t) (least-packed o l) (packed-is n t) in
+      (q, rw q at (sym (weighed o (lists-order n o (l .lists))) ∙ e))
 
   -- so the recursion, as a function, does
-  pub dynamic-is-packed : dynamic (cost n t) n ≡ packed n t
-  dynamic-is-packed = dynamic-packs (bestOf (cost n t) n) (pickOf (cost n t) n) (solved (cost n t) n) _ (dynamic-follows (cost n t) n) .0
+  pub dynamic-is-packed : dynamic (cost w n t) n ≡ packed n t
+  dynamic-is-packed = dynamic-packs (bestOf (cost w n t) n) (pickOf (cost w n t) n) (solved (cost w n t) n) _ (dynamic-follows (cost w n t) n) .0

@@ -16,7 +16,7 @@ use Rattle.theory.proofs.Member.{head, tail, not-nil, cast}
 use Rattle.theory.proofs.Bits.{below-in, in-below, bit-lt, bit-zero, bit-high, bits-eq, bit-same, bit-other, clear-le}
 use Rattle.theory.proofs.Tests.{keep-in, in-keep}
 use Rattle.theory.proofs.Perm.{Exactly, exactly-iff, once-keep, once-from, later}
-use Rattle.theory.proofs.Least.{Rising, rising-from, rising-keep}
+use Rattle.theory.proofs.Least.{Rising, rising-from, pairwise-keep}
 use Rattle.theory.proofs.Dynamic.{Lists}
 
 -- ---- the members of a set
@@ -58,7 +58,7 @@ having-exactly b n S =
 
 pub having-rising : (b n S : ℕ) → Rising (having b n S)
 unfolding having
-having-rising b n S = rising-keep (λ (v : ℕ). eqb (bit S v) b) (below n) (rising-from 0 n)
+having-rising b n S = pairwise-keep _<_ (λ (v : ℕ). eqb (bit S v) b) (below n) (rising-from 0 n)
 
 -- l lists once each flag below n that S lacks: the flags asked before those of S
 abbrev pub Before : ℕ → ℕ → List ℕ → Type 0

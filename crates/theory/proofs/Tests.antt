@@ -12,7 +12,7 @@ use lib.ListN.{length, getD}
 use Rattle.rule.specs.Bits.{below}
 use Rattle.rule.specs.Tests.{each, addIf, keep, same, among}
 use Rattle.theory.proofs.Member.{In, head, tail, not-nil, cases-cons}
-use Rattle.theory.proofs.Bits.{below-in, in-below}
+use Rattle.theory.proofs.Bits.{length-from, below-in, in-below}
 
 -- ---- a test and the fact that it tests
 
@@ -23,6 +23,12 @@ Tested b P = ((b ≡ true) × P) ⊎ ((b ≡ false) × (P → ⊥))
 pub tested : {P : Type 0} (b : Bool) → (b ≡ true → P) → (P → b ≡ true) → Tested b P
 tested true f g = inl (refl, f refl)
 tested false f g = inr (refl, λ p. false≢true (g p))
+
+-- tests that pass together are one
+pub same-bool : (a b : Bool) → (a ≡ true → b ≡ true) → (b ≡ true → a ≡ true) → a ≡ b
+same-bool true b f g = sym (f refl)
+same-bool false true f g = g refl
+same-bool false false f g = refl
 
 pub and-split : (a b : Bool) → (a && b) ≡ true → (a ≡ true) × (b ≡ true)
 and-split true b e = (refl, e)
@@ -138,6 +144,16 @@ module _ {A : Type 0} (p : A → Bool) where
       go : (b : Bool) → length (keep p l) ≤ length l → length (addIf b x (keep p l)) ≤ suc (length l)
       go true h = omega arith
       go false h = omega arith
+
+-- two tests that agree keep the same
+pub keep-same : {A : Type 0} (p q : A → Bool) (xs : List A) → ((x : A) → In x xs → p x ≡ q x) → keep p xs ≡ keep q xs
+unfolding keep
+keep-same {A} p q [] f = refl
+keep-same {A} p q (x ∷ xs) f = ap₂ (λ (b : Bool) (l : List A). addIf b x l) (f x (head refl)) (keep-same p q xs (λ y m. f y (tail m)))
+
+-- no more pass than there are
+pub below-keep : (p : ℕ → Bool) (k : ℕ) → length (keep p (below k)) ≤ k
+below-keep p k = omega (arith, length-keep p (below k), length-from 0 k)
 
 -- each number below n passes
 pub each-below : (p : ℕ → Bool) (n : ℕ) → each p (below n) ≡ true → (k : ℕ) → k < n → p k ≡ true
