@@ -48,8 +48,8 @@ static void fold(const uint16_t *source, unsigned p, uint16_t *codes, unsigned w
     }
 }
 
-// What asking a flag costs while a set of so many flags is still to be asked: the rows of the ways whose halves differ, and the nodes, which are those of these ways
-// that are the first with their code.
+// What asking a flag costs while a set of so many flags is still to be asked: the rows of the ways whose halves differ, and the nodes, which are those of these
+// ways that are the first with their code.
 static unsigned cost_of(const uint16_t *source, unsigned p, const uint16_t *codes, unsigned ways, unsigned flags)
 {
     unsigned nodes = 0, differing = 0;

@@ -26,7 +26,7 @@ use Rattle.theory.proofs.Bits.{bit-lt}
 use Rattle.theory.proofs.Cofactor.{length-cofactor, row-lt, cofactor-rows}
 use Rattle.theory.proofs.Sound.{sound-shape}
 use Rattle.theory.proofs.Walks.{smaller, length-tabled, length-table, fit-table}
-use Rattle.theory.proofs.Orders.{fit-order-is, packed-fewest}
+use Rattle.theory.proofs.Orders.{fit-order-is, packed-is}
 use Rattle.theory.proofs.Refused.{Passed, others, last-given}
 use Rattle.demands.proofs.Stands.{number-was}
 use Rattle.demands.proofs.Counts.{counts}
@@ -55,7 +55,7 @@ no-room-packed n used root t order c w d x e r b q l o y =
     omega (
       arith,
       counts n order t f e used root y,
-      packed-fewest n t (flags n order) (fit-order-is n order o),
+      packed-is n t .fewest (flags n order) (fit-order-is n order o),
       ltb-true (room c) (size (packed n t) t) g,
     )
 

@@ -3,7 +3,7 @@
 -- Assumes nothing.
 use mathlib.Core.Path.{_≡_, sym, ap, ap₂, subst, _∙_}
 use mathlib.Core.Logic.{_↔_}
-use mathlib.Core.Bool.{Bool, true, _&&_, not}
+use mathlib.Core.Bool.{true, not}
 use mathlib.Core.List.{List, _++_, map}
 use Prim.Native.Nat.{ℕ, suc, _+_, _-_, _*_, _/_, _^_, _≤_, _<_}
 use native.Mathlib.Omega.{arith}
@@ -31,7 +31,7 @@ use Rattle.theory.proofs.Restrict.{restrict-all}
 use Rattle.theory.proofs.Canonical.{mix, mix-cofactors}
 use Rattle.ways.specs.Ways.{insertBit, placeOf, Foldable}
 use Rattle.ways.proofs.Insert.{insert-lt}
-use Rattle.folding.specs.Fold.{Folds, foldCount, differing}
+use Rattle.folding.specs.Fold.{Folds, differs, isNode, foldCount, differing}
 use Rattle.folding.specs.Codes.{fixedBy, wayRule, Codes, Firsts}
 use Rattle.folding.proofs.Fixed.{length-fixed, fixed-insert, fixed-in, in-fixed, fixed-row}
 use Rattle.folding.proofs.Outside.{above, outside-none, outside-all, outside-size, outside-with, outside-without, outside-place, rest-size, place-le}
@@ -126,9 +126,9 @@ module _ (n : ℕ) (t : List ℕ) (fit : length t ≡ 2 ^ n) where
           }
 
       -- two halves differ where the way's rule depends on v
-      halves-test : (i : ℕ) → i < stretch n set
-          → not (eqb (getD s (insertBit i (placeOf set v) 0) 0) (getD s (insertBit i (placeOf set v) 1) 0)) ≡ depends v (wayRule n t set i)
-      halves-test i l =
+      differs-is : (i : ℕ) → i < stretch n set → differs s (placeOf set v) i ≡ depends v (wayRule n t set i)
+      unfolding differs
+      differs-is i l =
           let x = halves i i 0 1 l l (omega arith) (omega arith) in
           same-bool _ _
           (λ e. differ-depends v (wayRule n t set i) (λ y. eqb-false _ _ (not-true _ e) (x .1 y)))
@@ -143,49 +143,47 @@ module _ (n : ℕ) (t : List ℕ) (fit : length t ≡ 2 ^ n) where
           let half : length s / 2 ≡ stretch n set = omega (arith, twice) in
           rw half
           (ap (λ (l : List ℕ). length l * 2 ^ setSize set)
-          (keep-same _ (λ (i : ℕ). depends v (wayRule n t set i)) (below (stretch n set)) (λ i m. halves-test i (below-in m)))
+          (keep-same _ (λ (i : ℕ). depends v (wayRule n t set i)) (below (stretch n set)) (λ i m. differs-is i (below-in m)))
           ∙ rw (← size)
           (unfold wayRule in sym (rows-ways n (depends v) (having 0 n set) t (setSize set) (outside-all n set few small) (q .once) (λ i m. q .sound i m .0)))
           ∙ ap (λ (k : ℕ). length (keep (λ (r : ℕ). depends v (restrict (having 0 n set) r t)) (below k))) (sym fit))
 
       -- and whatever flag they were folded by, their count is that of the nodes that ask v
       module _ {d : List ℕ} (e : Codes n t set d) (first : Firsts d) where
-        node : ℕ → Bool
-        node i = eqb (getD d i 0) i && not (eqb (getD s (insertBit i (placeOf set v) 0) 0) (getD s (insertBit i (placeOf set v) 1) 0))
+        nodes : List ℕ
+        nodes = keep (isNode s (placeOf set v) d) (below (length d))
 
         rules : List (List ℕ)
-        rules = map (wayRule n t set) (keep node (below (length d)))
+        rules = map (wayRule n t set) nodes
 
-        node-is : (i : ℕ) → In i (keep node (below (length d))) → (i < length d) × (getD d i 0 ≡ i) × (depends v (wayRule n t set i) ≡ true)
-        unfolding node
+        node-is : (i : ℕ) → In i nodes → (i < length d) × (getD d i 0 ≡ i) × (depends v (wayRule n t set i) ≡ true)
+        unfolding nodes isNode
         node-is i m =
-            let (k, p) = keep-in node (below (length d)) m in
+            let (k, p) = keep-in (isNode s (placeOf set v) d) (below (length d)) m in
             let l : i < length d = below-in k in
             let (q, r) = and-split (eqb (getD d i 0) i) _ p in
-            let x = halves i i 0 1 (omega (arith, e .ways)) (omega (arith, e .ways)) (omega arith) (omega arith) in
-            (l, eqb-true (getD d i 0) i q, differ-depends v (wayRule n t set i) (λ y. eqb-false _ _ (not-true _ r) (x .1 y)))
+            (l, eqb-true (getD d i 0) i q, sym (differs-is i (omega (arith, e .ways))) ∙ r)
 
-        is-node : (i : ℕ) → i < length d → getD d i 0 ≡ i → depends v (wayRule n t set i) ≡ true → In i (keep node (below (length d)))
-        unfolding node
+        is-node : (i : ℕ) → i < length d → getD d i 0 ≡ i → depends v (wayRule n t set i) ≡ true → In i nodes
+        unfolding nodes isNode
         is-node i l q r =
-            let x = halves i i 0 1 (omega (arith, e .ways)) (omega (arith, e .ways)) (omega arith) (omega arith) in
-            in-keep node (below (length d)) (in-below l)
-            (and-join (eq-eqb (getD d i 0) i q) (ap not (ne-eqb _ _ (λ y. depends-true v (wayRule n t set i) r (x .0 y)))))
+            in-keep (isNode s (placeOf set v) d) (below (length d)) (in-below l)
+            (and-join (eq-eqb (getD d i 0) i q) (differs-is i (omega (arith, e .ways)) ∙ r))
 
         rules-once : Once rules
         unfolding rules
         rules-once =
-            once-map (wayRule n t set) (keep node (below (length d)))
+            once-map (wayRule n t set) nodes
             (λ i j mi mj q.
             let (l, x, _) = node-is i mi in
             let (k, y, _) = node-is j mj in
             sym x ∙ e .same i j l k .1 q ∙ y)
-            (once-keep node (below (length d)) (once-from 0 (length d)))
+            (unfold nodes in once-keep (isNode s (placeOf set v) d) (below (length d)) (once-from 0 (length d)))
 
         rules-in : Within rules (levelNodes (having 0 n set) v t)
         unfolding rules wayRule
         rules-in u m =
-            let (i, k, q) = map-in (wayRule n t set) (keep node (below (length d))) m in
+            let (i, k, q) = map-in (wayRule n t set) nodes m in
             let (l, x, y) = node-is i k in
             cast (sym q) (in-level (having 0 n set) v t (fixed-in (having 0 n set) i t) y)
 
@@ -201,7 +199,7 @@ module _ (n : ℕ) (t : List ℕ) (fit : length t ≡ 2 ^ n) where
             cast (sym w) (in-map (wayRule n t set) (is-node (getD d i 0) r z (ap (depends v) w ∙ y)))
 
         pub count-is : foldCount s (placeOf set v) d ≡ nodeCost n t set v
-        unfolding foldCount nodeCost rules node
+        unfolding foldCount nodeCost rules nodes
         count-is =
-            sym (length-map (keep node (below (length d))) (wayRule n t set))
+            sym (length-map nodes (wayRule n t set))
             ∙ once-set rules (levelNodes (having 0 n set) v t) rules-once (level-once (having 0 n set) v t) rules-in in-rules

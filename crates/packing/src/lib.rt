@@ -1,4 +1,5 @@
-// Packing: of all orders of a table's flags one that draws it with the fewest nodes, of several the one that request 6 names, and the diagram that it draws.
+// Packing: of all orders of a table's flags the one with the fewest nodes, of several the one whose walks ask the fewest flags, and of these the first by
+// dictionary comparison; and the diagram that it draws.
 mod call;
 
 pub use call::pack;

@@ -2,9 +2,9 @@
 -- A set is a number: bit v of S says that flag v is still to be asked. The cost c S v is that of asking v while S is still to be asked.
 -- Assumes nothing.
 use mathlib.Core.Path.{_≡_, refl, sym, ap, ap₂, _∙_, subst}
-use mathlib.Core.Logic.{_≢_, _⊎_, inl, inr}
+use mathlib.Core.Logic.{_≢_, inl, inr}
 use mathlib.Core.List.{List, [], _∷_}
-use Prim.Native.Nat.{ℕ, _+_, _*_, _≤_, _<_}
+use Prim.Native.Nat.{ℕ, _+_, _*_, _≤_}
 use native.Mathlib.Nat.{add-mul, eq-or-lt-of-le, le-trans}
 use native.Mathlib.Omega.{arith}
 use lib.ListN.{length}

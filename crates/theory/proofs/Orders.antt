@@ -219,10 +219,6 @@ packed-is n t =
     asked : List ℕ → ℕ
     asked o = askedTotal o t
 
--- no order draws a table with fewer nodes than the packed one
-pub packed-fewest : (n : ℕ) (t o : List ℕ) → Order n o → size (packed n t) t ≤ size o t
-packed-fewest n t o p = packed-is n t .fewest o p
-
 -- ---- orders in their ten places
 
 -- an order of n flags has n

@@ -8,13 +8,14 @@ use borrow.Author.Needs.{needs}
 use denote.Ref.{now}
 use lib.ListN.{length}
 use Rattle.ways.proofs.Insert.{way-few}
-use Rattle.folding.proofs.Counted.{differs, node, passing, passing-none, passing-le, nodes-all, ways-all, way-counted, way-passed, node-counted, halves-passed, later-passed}
+use Rattle.folding.specs.Fold.{differs, isNode}
+use Rattle.folding.proofs.Counted.{passing, passing-none, passing-le, nodes-all, ways-all, way-counted, way-passed, node-counted, halves-passed, later-passed}
 use Rattle.folding.proofs.count.Statement.{statement}
 use Rattle.folding.proofs.count.Tie as tie
 
 abbrev Inv-loop : tie.InvT-loop
 Inv-loop source p codes nodes₀ ways₀ i₀ nodes ways i =
-    (i ≤ length codes) × (nodes ≡ passing (node source p codes) i) × (ways ≡ passing (differs source p) i)
+    (i ≤ length codes) × (nodes ≡ passing (isNode source p codes) i) × (ways ≡ passing (differs source p) i)
 
 abbrev μ-loop : tie.MeasureT-loop
 μ-loop source p codes nodes₀ ways₀ i₀ nodes ways i = length codes - i
@@ -47,7 +48,7 @@ add-nodes : tie.Need-add-nodes Inv-loop μ-loop
 add-nodes c =
     let at = c .before .before .before .before .before .before in
     let s = at .before .before .before in
-    omega (arith, at .loop .inv .1, passing-le (node (now (s .args .source)) (s .args .p) (now (s .args .codes))) (at .loop .i))
+    omega (arith, at .loop .inv .1, passing-le (isNode (now (s .args .source)) (s .args .p) (now (s .args .codes))) (at .loop .i))
 
 add-i : tie.Need-add-i Inv-loop μ-loop
 add-i c =
