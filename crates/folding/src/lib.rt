@@ -28,12 +28,12 @@ pub struct Asking {
     pub ways: u16,
 }
 
-// Both counts. The codes may have been folded from another source.
+// Both counts, held in 16 bits: there are at most 512 ways, so a level never has more than 512 nodes. The codes may have been folded from another source.
 pub fn count(source: &[u16], p: u16, codes: &[u16]) -> Asking
     requires { ⌜ Foldable (now source) p × (length (now source) ≡ length (now codes) * 2) ⌝ }
     ensures { λ r. ⌜ Counts (now (source .entry)) p (now (codes .entry)) (r .nodes) (r .ways) ⌝ }
 {
-    let mut nodes: u64 = 0;
+    let mut nodes: u16 = 0;
     let mut ways: u16 = 0;
     let mut i: u16 = 0;
     while (i as usize) < codes.len() {
@@ -45,5 +45,8 @@ pub fn count(source: &[u16], p: u16, codes: &[u16]) -> Asking
         }
         i += 1;
     }
-    Asking { nodes, ways }
+    Asking {
+        nodes: nodes as u64,
+        ways,
+    }
 }

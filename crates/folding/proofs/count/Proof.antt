@@ -9,7 +9,8 @@ use denote.Ref.{now}
 use lib.ListN.{length}
 use Rattle.ways.proofs.Insert.{way-few}
 use Rattle.folding.specs.Fold.{differs, isNode}
-use Rattle.folding.proofs.Counted.{passing, passing-none, passing-le, nodes-all, ways-all, way-counted, way-passed, node-counted, halves-passed, later-passed}
+use Rattle.folding.proofs.Counted.{passing, passing-none, nodes-all, ways-all, way-counted, way-passed, node-counted, halves-passed, later-passed}
+use Rattle.folding.proofs.LevelBound.{counted-few}
 use Rattle.folding.proofs.count.Statement.{statement}
 use Rattle.folding.proofs.count.Tie as tie
 
@@ -33,22 +34,20 @@ code-at-requires-2 c κs =
     let s = c .before .before .before .before .before .pre in
     (s .0, omega (arith, s .1), omega arith)
 
-add-ways : tie.Need-add-ways Inv-loop μ-loop
-add-ways c =
-    let at = c .before .before .before .before in
-    let s = at .before .before .before in
-    omega (
-      arith,
-      at .loop .inv .2,
-      passing-le (differs (now (s .args .source)) (s .args .p)) (at .loop .i),
-      way-few (s .pre .0) (at .loop .i) (omega (arith, s .pre .1)),
+-- no more nodes than a level can have, and no more ways
+few : (c : tie.At-loop Inv-loop μ-loop) → (c .loop .nodes ≤ 512) × (c .loop .ways ≤ 512)
+few c =
+    let s = c .before .before .before in
+    let counted = counted-few (s .pre .0) (c .loop .i) (omega (arith, s .pre .1)) in (
+      rw (c .loop .inv .1) (counted _),
+      rw (c .loop .inv .2) (counted _),
     )
 
+add-ways : tie.Need-add-ways Inv-loop μ-loop
+add-ways c = omega (arith, few (c .before .before .before .before) .1)
+
 add-nodes : tie.Need-add-nodes Inv-loop μ-loop
-add-nodes c =
-    let at = c .before .before .before .before .before .before in
-    let s = at .before .before .before in
-    omega (arith, at .loop .inv .1, passing-le (isNode (now (s .args .source)) (s .args .p) (now (s .args .codes))) (at .loop .i))
+add-nodes c = omega (arith, few (c .before .before .before .before .before .before) .0)
 
 add-i : tie.Need-add-i Inv-loop μ-loop
 add-i c =
@@ -107,4 +106,5 @@ count-spec =
     add-i
     (λ c. search needs)
     loop-again
+    (λ c. omega (arith, few (c .before) .0))
     returns)
