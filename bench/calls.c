@@ -1,5 +1,5 @@
-// The calls on single diagrams: those of the older commit beside this one's, walk and tabulate beside the same in plain C, and read of records in sequence
-// beside others.
+// The calls on single diagrams: those of the older commit beside this one's, walk and tabulate beside the same in plain C, read of records in sequence beside
+// others, and provoke beside tabulate.
 #include "drawing.h"
 #include "engine.h"
 #include "older/older.h"
@@ -81,6 +81,25 @@ static uint8_t settled[TABLES][HEAD + RECORD * RECORDS], drawn[TABLES][HEAD + RE
     }
 READ(read_settled, settled)
 READ(read_drawn, drawn)
+
+// Random rules of ten flags, each with another as its pass rule, in one store: the rule's lowest yes row under it, and under the rule's opposite, where there
+// is none.
+static struct store pairs[TABLES];
+static uint16_t rules[TABLES], others[TABLES], opposites[TABLES];
+
+static uint64_t provoke(int i, uint16_t wanted, uint16_t pass, uint16_t fixed, uint16_t ones)
+{
+    return engine_provoke(FLAGS, rising_order, pairs[i].cells, CELLS, pairs[i].used, rules[i], wanted, pass, fixed, ones);
+}
+
+static uint64_t provoke_none(int i) { return provoke(i, 1, opposites[i], 0, 0); }
+
+static uint64_t provoke_lowest(int i) { return provoke(i, 1, others[i], 0, 0); }
+
+static uint64_t tabulate_pair(int i)
+{
+    return engine_tabulate(FLAGS, rising_order, pairs[i].cells, CELLS, pairs[i].used, rules[i], bytes, ROWS);
+}
 
 static void must(int holds, const char *what)
 {
@@ -165,6 +184,46 @@ static void make_files(void)
     }
 }
 
+// The node of two rules joined in a pair's store, which has room for it.
+static uint16_t joined(int i, uint8_t code, uint16_t first, uint16_t second)
+{
+    uint64_t answer = engine_join(FLAGS, rising_order, pairs[i].cells, CELLS, pairs[i].used, code, first, second);
+    must(refusal(answer) == 0, "a join is refused");
+    pairs[i].used = first_value(answer);
+    return second_value(answer);
+}
+
+// The lowest row by a scan of both tables, or 15.
+static uint64_t scanned(const uint8_t *rule, unsigned wanted, const uint8_t *pass, unsigned fixed, unsigned ones)
+{
+    for (unsigned row = 0; row < ROWS; row++)
+        if (pass[row] && rule[row] == wanted && (row & fixed) == ones)
+            return row << 8;
+    return 15;
+}
+
+// Provokes of each pair answer as a scan does, with no flag fixed and with random ones; each finds no row under the rule's opposite.
+static void make_pairs(void)
+{
+    int found = 0, tried = 0;
+    for (int i = 0; i < TABLES; i++) {
+        const uint8_t *rule = tables[i], *pass = tables[(i + 1) % TABLES];
+        pairs[i].used = 0;
+        rules[i] = draw(&pairs[i], RECORDS, rule);
+        others[i] = draw(&pairs[i], RECORDS, pass);
+        opposites[i] = joined(i, 12, rules[i], 0);
+        must(refusal(provoke_none(i)) == 15, "a row is found that the pass rule forbids");
+        for (int t = 0; t < 100; t++) {
+            unsigned fixed = t ? random_below(ROWS) | random_below(ROWS) : 0, ones = fixed & random_below(ROWS), wanted = t % 2;
+            uint64_t answer = provoke(i, wanted, others[i], fixed, ones);
+            must(answer == scanned(rule, wanted, pass, fixed, ones), "a provoke differs from the scan");
+            tried++;
+            found += refusal(answer) == 0;
+        }
+    }
+    printf("%d provokes answer as a scan of the tables, %d find a row\n", tried, found);
+}
+
 // All three walks answer alike, of stores with one cell changed; this one's and that in plain C with the same flags asked, and alike under pass rules.
 static void compare(void)
 {
@@ -198,6 +257,7 @@ static const struct way checks[2] = {{"old", old_check, 0}, {"new", new_check, 0
 static const struct way tabulates[2] = {{"old", old_tabulate, 0}, {"new", new_tabulate, 0}};
 static const struct way builds[2] = {{"old", old_build, 0}, {"new", new_build, 0}};
 static const struct way reads[2] = {{"in sequence", read_settled, 0}, {"as drawn", read_drawn, 0}};
+static const struct way provokes[3] = {{"tabulate", tabulate_pair, 0}, {"no row", provoke_none, 0}, {"a row", provoke_lowest, 0}};
 static const struct way plain_walks[2] = {{"engine", new_walk, 0}, {"plain C", c_walk, 0}};
 static const struct way passed_walks[2] = {{"engine", new_walk_under, 0}, {"plain C", c_walk_under, 0}};
 static const struct way plain_tabulates[2] = {{"engine", new_tabulate, 0}, {"plain C", c_tabulate, 0}};
@@ -235,6 +295,7 @@ int main(void)
     compare();
     make_diagrams();
     make_files();
+    make_pairs();
 
     print_head(walks, 2);
     measure_walks(walks, 1, 30);
@@ -257,5 +318,10 @@ int main(void)
 
     print_head(reads, 2);
     measure_diagrams("read of a file", reads);
+
+    struct took provoked[3];
+    print_head(provokes, 3);
+    measure(provokes, 3, TABLES, 60, provoked);
+    print_line("provoke, all flags free", provoked, 3);
     return 0;
 }

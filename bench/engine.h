@@ -14,6 +14,9 @@ uint64_t engine_walk_under(uint8_t n, const uint8_t *order, const uint16_t *cell
                            uint16_t row);
 uint64_t engine_tabulate(uint8_t n, const uint8_t *order, const uint16_t *cells, size_t length, uint16_t used, uint16_t node, uint8_t *bytes,
                          size_t rows);
+// Provoke: the row.
+uint64_t engine_provoke(uint8_t n, const uint8_t *order, const uint16_t *cells, size_t length, uint16_t used, uint16_t node, uint16_t wanted,
+                        uint16_t pass, uint16_t fixed, uint16_t ones);
 
 // The store's join: used records, then the node. It is weak while crates/exports has none: the programs that measure it test whether it is there.
 uint64_t engine_join(uint8_t n, const uint8_t *order, uint16_t *cells, size_t length, uint16_t used, uint8_t code, uint16_t first,

@@ -1,5 +1,6 @@
 //! The lists of store calls that are written as vectors: each refusal at its edge, stores that are
-//! filled to the last record, all rows of rules under pass rules, and random lists.
+//! filled to the last record, all rows of rules under pass rules, rows provoked with flags fixed in
+//! all ways, and random lists.
 
 use crate::play::play;
 use crate::scribe::{kinds, Kind, Scribe, CALLS};
@@ -20,6 +21,7 @@ const TESTED: &[(char, &[usize])] = &[
     ('t', &[1, 2, 4, 5, 6, 7]),
     ('w', &[1, 4, 5, 6, 7, 9]),
     ('g', &[1, 4, 5, 6, 7, 9, 14]),
+    ('p', &[1, 4, 5, 6, 7, 9, 15]),
 ];
 
 /// States given to open: n, the order and the used number, at the edges of what is fit.
@@ -132,6 +134,46 @@ const PASSED: &[(usize, &str, &str, &str)] = &[
     (1, "0", "f 0;j 12 @1 0", "@1 @1;@1 @2;@2 @1;@2 0;0 @2;1 @1"),
 ];
 
+/// The same, for rows that are provoked with flags fixed in all ways; of four flags, the settled
+/// 0001000100011111 in two orders, at most one is fixed.
+const PROVOKED: &[(usize, &str, &str, &str)] = &[
+    (2, "01", "f 0;f 1;j 6 @1 @2;j 7 @1 @2", "@3 @4;@4 @3"),
+    (2, "10", "f 0;f 1;j 2 @1 @2;j 14 @1 @2", "@3 1;@4 @4"),
+    (3, "120", "f 0;f 1;f 2;c @1 @2 @3;j 11 @3 @1", "@4 @5;@5 @4"),
+    (3, "210", "f 0;f 1;f 2;j 6 @1 @3;j 1 @2 @4", "@5 1"),
+    (4, "0123", "f 0;f 1;j 1 @1 @2;f 2;f 3;j 1 @4 @5;j 7 @3 @6", "@7 1"),
+    (4, "0213", "f 0;f 1;j 1 @1 @2;f 2;f 3;j 1 @4 @5;j 7 @3 @6", "@7 1"),
+];
+
+/// Orders of ten flags, an operator by which all of them are joined as `@19`, `@20` being its
+/// opposite, and what is provoked. By AND row 1023 alone says yes, by OR row 0 alone says no. Two
+/// opposites leave no row, though all flags are free. The last open leaves no tables to be told.
+const TEN: &[(&str, usize, &str)] = &[
+    (
+        "0123456789",
+        1,
+        "p @19 1 1 0 0;p @20 0 1 0 0;p 1 1 @19 0 0;p 0 0 @19 1023 1023;p @19 1 1 256 256;\
+         p @19 1 @20 0 0;p @20 1 @19 0 0;p @20 0 @20 0 0;p @19 0 1 1023 1023;p @19 1 1 512 0;\
+         p @19 1 1 1 0;p @19 0 1 1022 1022;p @19 0 @20 511 511;p @18 1 1 0 0;p @18 1 @20 512 512;\
+         p @18 1 @19 0 0;p @20 1 @17 768 512;o 0 - 0",
+    ),
+    (
+        "3140592687",
+        1,
+        "p @19 1 1 0 0;p @20 0 @19 0 0;p @18 0 1 0 0;p @18 1 @19 0 0;p @19 1 @20 0 0;\
+         p @19 0 @18 0 0;p @20 1 @18 512 512;p @17 1 @20 256 256;p @17 1 @20 768 768;\
+         p @17 0 1 1021 1021;p @10 1 @19 0 0;p @10 1 @20 511 511;o 0 - 0",
+    ),
+    (
+        "9876543210",
+        7,
+        "p @20 1 1 0 0;p @19 0 1 0 0;p 1 1 @20 0 0;p @19 0 1 1023 0;p 0 0 @20 1 0;p @19 1 1 0 0;\
+         p @19 1 1 1 0;p @19 1 1 511 0;p @19 1 1 1023 0;p @19 1 @20 0 0;p @19 0 @19 0 0;\
+         p @20 1 1 512 512;p @20 0 1 1023 512;p @20 0 1 1023 1023;p @18 0 @19 0 0;\
+         p @18 0 @19 512 0;p @18 1 @19 512 512;o 0 - 0",
+    ),
+];
+
 /// Open at its edges, with a call behind each that tells whether the state is fit.
 fn opens(dice: &mut Dice, cells: usize, states: &[&str]) -> Vec<String> {
     let mut list = Scribe::new(dice, cells);
@@ -142,8 +184,8 @@ fn opens(dice: &mut Dice, cells: usize, states: &[&str]) -> Vec<String> {
     list.end()
 }
 
-/// All calls while the last open is not an accepted one, fit and unfit throughout; tabulate and the
-/// walk under a pass rule also with one unfit argument; then what a fit open alters.
+/// All calls while the last open is not an accepted one, fit and unfit throughout; tabulate, the
+/// walk under a pass rule and provoke also with one unfit argument; then what a fit open alters.
 fn unopened(dice: &mut Dice, cells: usize, states: &[&str]) -> Vec<String> {
     let mut list = Scribe::new(dice, cells);
     for state in states {
@@ -156,12 +198,12 @@ fn unopened(dice: &mut Dice, cells: usize, states: &[&str]) -> Vec<String> {
         list.say_fit(&letter.to_string());
         list.say_unfit(letter, |_| true);
     }
-    for letter in ['t', 'g'] {
+    for letter in ['t', 'g', 'p'] {
         let places = 0..kinds(letter).len();
         places.for_each(|place| list.say_unfit(letter, |other| other == place));
     }
     list.say_open("2 10 3");
-    list.say_fit("fftwg");
+    list.say_fit("fftwgp");
     list.end()
 }
 
@@ -192,8 +234,43 @@ fn at_edges(dice: &mut Dice, n: usize, letters: &str) -> Vec<String> {
 fn at_all_edges(dice: &mut Dice, n: usize, which: usize) -> Vec<String> {
     let mut list = with_flags(dice, n);
     let [nodes, rows] = [Kind::Node, Kind::Row].map(|kind| list.edges(kind).concat());
-    for pass in nodes.iter().chain(&[1]) {
+    for pass in nodes.iter().map(String::as_str).chain(["1"]) {
         rows.iter().for_each(|row| drop(list.say(&format!("g {} {pass} {row}", nodes[which]))));
+    }
+    list.end()
+}
+
+/// Provokes of any rule under "yes", with sets that are unfit by one bit: a flag of the store that
+/// is 1 where all the others are fixed; a bit from n on in the fixed set, in the ones, or in both.
+fn unfit_sets(dice: &mut Dice, n: usize) -> Vec<Vec<String>> {
+    let all = (1 << n) - 1;
+    let outside = (0..n).map(|v| (all - (1 << v), 1 << v));
+    let above = (n..16).flat_map(|v| [(1 << v, 0), (0, 1 << v), (1 << v, 1 << v)]);
+    let sets: Vec<(usize, usize)> = outside.chain(above).collect();
+    let in_list = |sets: &[(usize, usize)]| {
+        let mut list = with_flags(dice, n);
+        for (fixed, ones) in sets {
+            let (rule, wanted) = (list.node(), list.dice.below(2));
+            list.say(&format!("p {rule} {wanted} 1 {fixed} {ones}"));
+        }
+        list.end()
+    };
+    sets.chunks(32).map(in_list).collect()
+}
+
+/// Provokes that are fit, with all kinds of 9 at once, and with each: of the last rule under "yes",
+/// and under "no", which leaves no row; the first three also where the rule, the pass rule or both
+/// are too high. So 9 is met ahead of 15, and 7 ahead of 9.
+fn provoked_at_edges(dice: &mut Dice, n: usize) -> Vec<String> {
+    let mut list = with_flags(dice, n);
+    let (last, bit) = (list.used() + 1, 1 << n);
+    let mut asks = vec![(1, 0, 0), (2, bit, bit + 1), (1, 0, 1)];
+    asks.extend([(0, bit - 1, 0), (2, 0, 0), (256, 0, 0), (65535, 0, 0), (1, bit, 0)]);
+    for (rule, pass) in [(last, 1), (last, 0), (last + 1, 1), (last, last + 1), (last + 1, 65535)] {
+        let count = if rule.max(pass) > last { 3 } else { asks.len() };
+        for (wanted, fixed, ones) in &asks[..count] {
+            list.say(&format!("p {rule} {wanted} {pass} {fixed} {ones}"));
+        }
     }
     list.end()
 }
@@ -242,20 +319,54 @@ fn said(dice: &mut Dice, room: usize, calls: &str) -> Vec<String> {
     played(dice, WIDTH * room, calls.split(';')).end()
 }
 
-/// All rows of rules under their pass rules, thirty-two walks to a list.
-fn all_rows(dice: &mut Dice, n: usize, made: &str, pairs: &str) -> Vec<Vec<String>> {
-    let rows = |pair| (0..1 << n).map(move |row: usize| format!("g {pair} {row}"));
-    let walks: Vec<String> = pairs.split(';').flat_map(rows).collect();
-    let calls = walks.chunks(32).map(|walks| format!("{made};{}", walks.join(";")));
+/// Lists that make rules and then ask this, thirty-two calls to a list.
+fn asked(dice: &mut Dice, made: &str, asks: Vec<String>) -> Vec<Vec<String>> {
+    let calls = asks.chunks(32).map(|asks| format!("{made};{}", asks.join(";")));
     calls.map(|calls| said(dice, 20, &calls)).collect()
 }
 
-/// Random rules, and then walks under pass rules.
-fn random_walks(dice: &mut Dice, n: usize) -> Vec<String> {
+/// All rows of rules under their pass rules.
+fn all_rows(n: usize, pairs: &str) -> Vec<String> {
+    let rows = |pair| (0..1 << n).map(move |row: usize| format!("g {pair} {row}"));
+    pairs.split(';').flat_map(rows).collect()
+}
+
+/// Flags fixed in all ways, but at most so many, as the words of their two sets: 3^n if all may be.
+fn all_sets(n: usize, most: u32) -> Vec<String> {
+    let fixed = (0..1usize << n).filter(|fixed| fixed.count_ones() <= most);
+    let within = |fixed| (0..=fixed).filter(move |ones| ones | fixed == fixed);
+    fixed.flat_map(|fixed| within(fixed).map(move |ones| format!("{fixed} {ones}"))).collect()
+}
+
+/// Both answers of rules under their pass rules, with at most so many flags fixed.
+fn all_provokes(n: usize, most: u32, pairs: &str) -> Vec<String> {
+    let mut asks = Vec::new();
+    for (rule, pass) in pairs.split(';').filter_map(|pair| pair.split_once(' ')) {
+        for wanted in [0, 1] {
+            let sets = all_sets(n, most).into_iter();
+            asks.extend(sets.map(|sets| format!("p {rule} {wanted} {pass} {sets}")));
+        }
+    }
+    asks
+}
+
+/// Ten flags, all of them joined by an operator, the opposite of that, and what is provoked.
+fn ten(dice: &mut Dice, order: &str, code: usize, provokes: &str) -> Vec<String> {
+    let mut calls = vec![format!("o 10 {order} 0")];
+    calls.extend((0..10).map(|i| format!("f {i}")));
+    calls.push(format!("j {code} @1 @2"));
+    calls.extend((3..=10).map(|flag| format!("j {code} @{} @{flag}", flag + 8)));
+    calls.push("j 12 @19 0".to_string());
+    calls.extend(provokes.split(';').map(str::to_string));
+    played(dice, CELLS, calls).end()
+}
+
+/// Random rules, and then these calls.
+fn random_asks(dice: &mut Dice, n: usize, letters: &str) -> Vec<String> {
     let steps = random_steps(dice, n);
     let mut list = played(dice, CELLS, steps);
     while list.calls() < 40 {
-        list.say_any("g");
+        list.say_any(letters);
     }
     list.end()
 }
@@ -272,7 +383,7 @@ fn ask_full(list: &mut Scribe) {
     for wanted in [false, true, true] {
         list.say_fix(wanted);
     }
-    list.say_fit("fjtwg");
+    list.say_fit("fjtwgp");
     let letter = list.dice.pick(&['f', 'j', 'c', 'x']);
     list.say_unfit(letter, |place| place == 0);
 }
@@ -296,15 +407,17 @@ fn pair(dice: &mut Dice, steps: &[String]) -> [Vec<String>; 2] {
 }
 
 /// Walks under the rule that was handed back last, for the last row that it allows and the last
-/// that it forbids.
-fn walk_under_last(list: &mut Scribe, rule: &str) {
-    let pass = *list.session.rules().last().expect("a rule");
+/// that it forbids; and a row is provoked of the rule before it.
+fn ask_under_last(list: &mut Scribe, rule: &str) {
+    let rules = list.session.rules();
+    let [before, pass] = [2, 1].map(|from_end| rules[rules.len() - from_end]);
     let allowed = list.session.rule_of_call(pass);
     for is_allowed in [true, false] {
         let mut rows = (0..1 << list.n()).rev();
         let row: usize = rows.find(|row| allowed.contains(row) == is_allowed).expect("such a row");
         list.say(&format!("g {rule} @{pass} {row}"));
     }
+    list.say(&format!("p @{before} 1 @{pass} 0 0"));
 }
 
 /// Ten flags in all the cells that may be lent, filled as far as the calls reach. The opposites of
@@ -320,9 +433,9 @@ fn large(dice: &mut Dice) -> Vec<String> {
     let opposites = (1..=10).map(|call| format!("j 12 @{call} 0"));
     let lacking: Vec<String> = opposites.filter(|line| list.session.needed(line) > 0).collect();
     lacking.iter().take(3).for_each(|line| drop(list.say(line)));
-    walk_under_last(&mut list, "@11");
+    ask_under_last(&mut list, "@11");
     while list.calls() < 40 {
-        list.say_any("jcxwg");
+        list.say_any("jcxwgp");
     }
     list.end()
 }
@@ -346,7 +459,7 @@ fn step(list: &mut Scribe) {
         let wanted = !list.dice.one_in(4);
         list.say_fix(wanted);
     } else {
-        list.say_any("kfjjjjjcccxtwwggg");
+        list.say_any("kfjjjjjcccxtwwgggp");
     }
 }
 
@@ -362,7 +475,7 @@ fn random(dice: &mut Dice) -> Vec<String> {
     let calls = if odd > 0 { 12 } else { 9 + dice.below(30).min(dice.below(30)) };
     let mut list = Scribe::new(dice, WIDTH * room + odd);
     if list.dice.one_in(8) {
-        (0..2).for_each(|_| list.say_any("kfjcxtwg"));
+        (0..2).for_each(|_| list.say_any("kfjcxtwgp"));
     }
     begin(&mut list, n);
     while list.calls() < calls {
@@ -380,14 +493,23 @@ fn lists(dice: &mut Dice) -> Vec<Vec<String>> {
     }
     lists.extend(UNFIT.iter().map(|(cells, states)| unopened(dice, *cells, states)));
     for n in [0, 1, 2, 3, 7, 10] {
-        lists.extend(["kfj", "ct", "xw"].map(|letters| at_edges(dice, n, letters)));
+        lists.extend(["kfj", "ct", "xw", "p"].map(|letters| at_edges(dice, n, letters)));
+        lists.extend(unfit_sets(dice, n));
+        lists.push(provoked_at_edges(dice, n));
     }
     for n in [0, 1, 3, 10] {
         lists.extend((0..4).map(|which| at_all_edges(dice, n, which)));
     }
     for (n, order, calls, pairs) in PASSED {
-        lists.extend(all_rows(dice, *n, &format!("o {n} {order} 0;{calls}"), pairs));
+        let made = format!("o {n} {order} 0;{calls}");
+        lists.extend(asked(dice, &made, all_rows(*n, pairs)));
+        lists.extend(asked(dice, &made, all_provokes(*n, 0, pairs)));
     }
+    for (n, order, calls, pairs) in PROVOKED {
+        let (made, most) = (format!("o {n} {order} 0;{calls}"), if *n < 4 { 3 } else { 1 });
+        lists.extend(asked(dice, &made, all_provokes(*n, most, pairs)));
+    }
+    lists.extend(TEN.iter().map(|(order, code, provokes)| ten(dice, order, *code, provokes)));
     for (state, calls) in MADE {
         let open = format!("o {state}");
         let steps = [&open[..]].into_iter().chain(calls.split(';'));
@@ -397,7 +519,8 @@ fn lists(dice: &mut Dice) -> Vec<Vec<String>> {
         let steps = random_steps(dice, n);
         lists.extend(pair(dice, &steps));
     }
-    lists.extend((0..16).map(|i| random_walks(dice, 2 + i % 7)));
+    lists.extend((0..16).map(|i| random_asks(dice, 2 + i % 7, "g")));
+    lists.extend((2..=10).map(|n| random_asks(dice, n, "p")));
     lists.extend([0x0B5E_55ED_CAFE_0002, 0x0B5E_55ED_CAFE_0003].map(|seed| large(&mut Dice(seed))));
     lists.extend((0..220).map(|_| random(dice)));
     lists.push(said(dice, 10, LENGTHS));
@@ -405,7 +528,7 @@ fn lists(dice: &mut Dice) -> Vec<Vec<String>> {
     lists
 }
 
-/// Every call meets every refusal that it tests, and no other.
+/// Every call is accepted and meets every refusal that it tests, and no other.
 fn cover(input: &str, output: &str) {
     let mut met: BTreeMap<char, BTreeSet<usize>> = BTreeMap::new();
     let is_call = |line: &&str| !line.starts_with("list ") && *line != "end";
@@ -415,10 +538,11 @@ fn cover(input: &str, output: &str) {
     for (call, answer) in input.lines().filter(is_call).zip(answers) {
         let number = answer.split("refused ").nth(1).and_then(|rest| rest.split(' ').next());
         let numbers = met.entry(call.chars().next().expect("a letter")).or_default();
-        numbers.extend(number.map(|number| number.parse::<usize>().expect("a number")));
+        numbers.insert(number.map_or(0, |number| number.parse().expect("a number")));
     }
     for (letter, rows) in TESTED {
-        assert_eq!(met[letter], rows.iter().copied().collect(), "refusals of {letter}");
+        let numbers = [&[0], *rows].concat();
+        assert_eq!(met[letter], numbers.into_iter().collect(), "answers of {letter}");
     }
 }
 

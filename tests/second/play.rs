@@ -10,18 +10,23 @@
 //!     t A BYTES         tabulate into so many lent bytes, 9 in each
 //!     w A ROW           walk
 //!     g A PASS ROW      walk under a pass rule
+//!     p A WANTED PASS FIXED ONES
+//!                       provoke under a pass rule; of the fixed flags those in ONES are 1
 //!     end               ends the list
 //!
 //! Each call is given the cells and state as the last one left them, open its own state. An order
 //! is a digit for each place, `-` for none; what is not written of its ten places is 0. A node is
 //! a number or `@j`, the node that call j of this list handed back; calls are counted from 0.
 //!
-//! What is printed, U being the used number of the state handed back, SET the flags asked as a
-//! number, bit v for flag v, and COUNT how many they are:
+//! A set of flags is a number, here and in print, bit v for flag v.
+//!
+//! What is printed, U being the used number of the state handed back, SET the flags asked, and
+//! COUNT how many they are:
 //!
 //!     open           open accepted used U                      open refused K used U
 //!     tabulate       table DIGITS used U                       refused K bytes kept used U
 //!     walk           answer A asked SET number COUNT used U    refused K used U
+//!     provoke        row R used U                              refused K used U
 //!     any other call rule NODE used U                          refused K used U
 //!     end            end used U
 //!
@@ -36,7 +41,7 @@
 //! that its call adds, children having smaller numbers than their parents.
 
 use crate::book::Book;
-use crate::store::{make, row_count, Ask, Rule, State, Store};
+use crate::store::{flags_in, make, row_count, Ask, Rule, State, Store};
 use crate::{collapse, digits, flags_asked, refuse, set_and_number};
 
 /// A node as the paper fixes it: by its number, or by the call that handed it back first.
@@ -80,6 +85,10 @@ fn read(line: &str) -> (Ask, Vec<Given>) {
         ["t", a, bytes] => (Ask::Tabulate(number(bytes)), vec![given(a)]),
         ["w", a, row] => (Ask::Walk(number(row)), vec![given(a)]),
         ["g", a, pass, row] => (Ask::Walk(number(row)), vec![given(a), given(pass)]),
+        ["p", a, wanted, pass, fixed, ones] => {
+            let ask = Ask::Provoke(number(wanted), number(fixed), number(ones));
+            (ask, vec![given(a), given(pass)])
+        }
         _ => panic!("no call: {line}"),
     }
 }
@@ -219,6 +228,34 @@ impl Session {
         Ok(format!("answer {} asked {set} number {number}", table[row]))
     }
 
+    /// The rows to be provoked, by sets of rows: those that the pass rule allows and that give the
+    /// wanted answer, less, for each fixed flag, those in which it has the other value.
+    fn serving(&self, rule: Name, pass: Name, [wanted, fixed, ones]: [usize; 3]) -> Rule {
+        let [yes, allowed] = [rule, pass].map(|name| self.rule(name));
+        let mut rows = if wanted == 1 { &allowed & &yes } else { &allowed - &yes };
+        for v in flags_in(fixed) {
+            let set = make(self.store.state.n, &Ask::Flag(v), &[]);
+            rows = if flags_in(ones).contains(&v) { &rows & &set } else { &rows - &set };
+        }
+        rows
+    }
+
+    /// "the lowest row that the pass rule allows, that has the fixed values and gives the wanted
+    /// answer" (document 02, request 8): the first such in the tables, the book's too. It is the
+    /// lowest by sets of rows, and walked under the pass rule it gives the answer.
+    fn provoke(&self, rule: Name, pass: Name, asked: [usize; 3]) -> Result<String, usize> {
+        let [answers, allowed] = [rule, pass].map(|name| self.table(name));
+        let [wanted, fixed, ones] = asked;
+        let serves =
+            |&row: &usize| allowed[row] == 1 && row & fixed == ones && answers[row] == wanted;
+        let found = (0..answers.len()).find(serves);
+        assert_eq!(found.as_ref(), self.serving(rule, pass, asked).first(), "by sets of rows");
+        let row = found.ok_or(15usize)?;
+        let walked = self.walk(rule, Some(&pass), row).expect("a row that can happen");
+        assert!(walked.starts_with(&format!("answer {wanted} ")), "row {row}: {walked}");
+        Ok(format!("row {row}"))
+    }
+
     fn answer(&mut self, ask: &Ask, nodes: &[Given]) -> Result<String, usize> {
         if let Ask::Open(given) = ask {
             return self.open(given);
@@ -229,6 +266,9 @@ impl Session {
         match *ask {
             Ask::Tabulate(_) => Ok(format!("table {}", digits(&self.table(arguments[0])))),
             Ask::Walk(row) => self.walk(arguments[0], arguments.get(1), row),
+            Ask::Provoke(wanted, fixed, ones) => {
+                self.provoke(arguments[0], arguments[1], [wanted, fixed, ones])
+            }
             _ => self.hand_back(ask, &arguments),
         }
     }

@@ -6,7 +6,8 @@ use crate::store::{depends, row_count};
 use crate::{digits, Dice};
 use Kind::*;
 
-/// What an argument is.
+/// What an argument is. `Sets` has two words, the flags that are fixed and those of them that are
+/// 1, and stands last.
 #[derive(Clone, Copy)]
 pub enum Kind {
     Node,
@@ -15,6 +16,7 @@ pub enum Kind {
     Code,
     Row,
     Bytes,
+    Sets,
 }
 
 /// The calls but open, by their letters.
@@ -27,6 +29,7 @@ pub const CALLS: &[(char, &[Kind])] = &[
     ('t', &[Node, Bytes]),
     ('w', &[Node, Row]),
     ('g', &[Node, Node, Row]),
+    ('p', &[Node, Value, Node, Sets]),
 ];
 
 pub fn kinds(letter: char) -> &'static [Kind] {
@@ -34,8 +37,8 @@ pub fn kinds(letter: char) -> &'static [Kind] {
 }
 
 impl Dice {
-    pub fn pick<T: Copy>(&mut self, from: &[T]) -> T {
-        from[self.below(from.len())]
+    pub fn pick<T: Clone>(&mut self, from: &[T]) -> T {
+        from[self.below(from.len())].clone()
     }
 
     pub fn one_in(&mut self, count: usize) -> bool {
@@ -59,6 +62,14 @@ impl Dice {
         }
         format!("{n} {} {}", digits(&order), self.pick(&[0, 1, 5, 65535]))
     }
+}
+
+/// The two sets where a table has so many rows: no flag fixed, all to 0, all to 1; then bit n in
+/// either and in both, all bits, and flag 0 that is 1 and not fixed.
+fn edges_of_sets(rows: usize) -> [Vec<String>; 2] {
+    let fit = vec![(0, 0), (rows - 1, 0), (rows - 1, rows - 1)];
+    let unfit = vec![(rows, 0), (0, rows), (rows, rows), (65535, 65535), (0, 1)];
+    [fit, unfit].map(|all| all.iter().map(|(fixed, ones)| format!("{fixed} {ones}")).collect())
 }
 
 /// A list that is being written.
@@ -102,9 +113,9 @@ impl Scribe<'_> {
     }
 
     /// The fit values of an argument at its edges, and the unfit ones next to these and far off.
-    pub fn edges(&self, kind: Kind) -> [Vec<usize>; 2] {
+    pub fn edges(&self, kind: Kind) -> [Vec<String>; 2] {
         let (n, used, rows) = (self.n(), self.used().min(65533), row_count(self.n()));
-        match kind {
+        let numbers = match kind {
             Node => [vec![0, used + 1], vec![used + 2, 65535]],
             Flag if n == 0 => [vec![], vec![0, 255]],
             Flag => [vec![0, n - 1], vec![n, 255]],
@@ -112,7 +123,9 @@ impl Scribe<'_> {
             Code => [vec![0, 15], vec![16, 255]],
             Row => [vec![0, rows - 1], vec![rows, 65535]],
             Bytes => [vec![rows], vec![rows - 1, rows + 1, 0]],
-        }
+            Sets => return edges_of_sets(rows),
+        };
+        numbers.map(|numbers| numbers.iter().map(usize::to_string).collect())
     }
 
     /// A node that was handed back, more often a rule with records, and one of the last.
@@ -128,16 +141,28 @@ impl Scribe<'_> {
         }
     }
 
+    /// About a fourth of the flags fixed to any values; unfit, one of sixteen bits is 1 and not
+    /// fixed.
+    fn sets(&mut self, is_fit: bool) -> String {
+        let rows = row_count(self.n());
+        let fixed = self.dice.below(rows) & self.dice.below(rows);
+        let ones = self.dice.below(rows);
+        let outside = if is_fit { 0 } else { 1 << self.dice.below(16) };
+        format!("{} {}", fixed & !outside, (fixed & ones) | outside)
+    }
+
     /// A fit argument, or an unfit one; of the operators more often one that asks both rules.
     fn argument(&mut self, kind: Kind, is_fit: bool) -> String {
-        let [fit, unfit] = self.edges(kind);
+        let ([fit, unfit], n) = (self.edges(kind), self.n());
         match kind {
-            _ if !is_fit => self.dice.pick(&unfit).to_string(),
+            Sets if !self.dice.one_in(4) => self.sets(is_fit),
+            _ if !is_fit => self.dice.pick(&unfit),
             Node => self.node(),
             Code if self.dice.one_in(3) => self.dice.below(16).to_string(),
             Code => self.dice.pick(&[1, 2, 4, 6, 6, 7, 8, 9, 11, 13, 14]).to_string(),
-            Row | Flag => self.dice.below(fit.last().map_or(1, |last| last + 1)).to_string(),
-            Value | Bytes => self.dice.pick(&fit).to_string(),
+            Row => self.dice.below(row_count(n)).to_string(),
+            Flag => self.dice.below(n.max(1)).to_string(),
+            Value | Bytes | Sets => self.dice.pick(&fit),
         }
     }
 
@@ -160,8 +185,8 @@ impl Scribe<'_> {
     /// A call in which the argument at a place is one of its edges.
     pub fn say_edge(&mut self, letter: char, place: usize, which: usize) {
         let fit = self.line(letter, |_| false);
-        let mut words: Vec<&str> = fit.split(' ').collect();
-        let edge = self.edges(kinds(letter)[place]).concat()[which].to_string();
+        let mut words: Vec<&str> = fit.splitn(1 + kinds(letter).len(), ' ').collect();
+        let edge = self.edges(kinds(letter)[place]).concat()[which].clone();
         words[place + 1] = &edge;
         self.say(&words.join(" "));
     }

@@ -17,7 +17,7 @@ pub struct State {
 }
 
 /// What a call asks, but for the nodes among its arguments. A walk has one, its rule, or behind it
-/// a pass rule too.
+/// a pass rule too; provoke has both.
 #[derive(Clone, Debug)]
 pub enum Ask {
     Open(State),
@@ -28,6 +28,8 @@ pub enum Ask {
     Fix(usize, usize),
     Tabulate(usize),
     Walk(usize),
+    /// The wanted answer, and two sets of flags: "which are fixed and which of these are 1".
+    Provoke(usize, usize, usize),
 }
 
 /// The rule of a table of bytes.
@@ -38,6 +40,19 @@ pub fn rule_of(table: &[usize]) -> Rule {
 /// 2^n; above ten flags no answer rests on it.
 pub fn row_count(n: usize) -> usize {
     1 << n.min(10)
+}
+
+/// The flags in a set of 16 bits, bit v standing for flag v.
+pub fn flags_in(set: usize) -> BTreeSet<usize> {
+    (0..16).filter(|v| (set >> v) & 1 == 1).collect()
+}
+
+/// "a wanted answer above 1, a set bit at or above n, or a 1 outside the fixed set, gives 9"
+/// (document 02, request 8).
+fn is_unfit_provoke(n: usize, wanted: usize, fixed: usize, ones: usize) -> bool {
+    let [fixed, ones] = [fixed, ones].map(flags_in);
+    let has_from_n = |set: &BTreeSet<usize>| set.iter().any(|&v| v >= n);
+    wanted > 1 || has_from_n(&fixed) || has_from_n(&ones) || !ones.is_subset(&fixed)
 }
 
 pub fn constant(n: usize, value: usize) -> Rule {
@@ -135,6 +150,7 @@ impl Store {
             Ask::Join(code) => *code > 15,
             Ask::Fix(i, value) => i >= n || *value > 1,
             Ask::Walk(row) => *row >= row_count(*n),
+            Ask::Provoke(wanted, fixed, ones) => is_unfit_provoke(*n, *wanted, *fixed, *ones),
             Ask::Open(_) | Ask::Choose | Ask::Tabulate(_) => false,
         };
         refuse(&[

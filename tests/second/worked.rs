@@ -1,6 +1,6 @@
 //! The store's own checks: lists worked out by hand, the operators by their digits, walks under
-//! pass rules beside those without, and the records that a rule needs beside the nodes that the
-//! collapse leaves.
+//! pass rules beside those without, rows provoked beside such walks, and the records that a rule
+//! needs beside the nodes that the collapse leaves.
 
 use crate::play::play;
 use crate::store::{depends, records_of, rule_of, Rule};
@@ -97,6 +97,89 @@ pub const LISTS: &[(&str, &str)] = &[
          answer 0 asked 2 number 1 used 4;refused 14 used 4;end used 4;node 2 0101;node 3 0011;\
          node 5 0110;node inner 1100;sum 459",
     ),
+    // x0x1 + x2x3 says yes for rows 3, 7, 11 and 12 to 15: the lowest is 3, and with flag 0 fixed
+    // to 0 it is 12. Where flags 0 and 1 are 1 none says no. Within it stands x1 + x2x3, of rows 2,
+    // 3, 6, 7 and 10 to 15.
+    (
+        "list 8r;o 4 0123 0;f 0;f 1;j 1 @1 @2;f 2;f 3;j 1 @4 @5;j 7 @3 @6;p @7 1 1 0 0;\
+         p @7 1 1 1 0;p @7 0 1 0 0;p @7 0 1 3 3;p @7 1 1 5 4;p 9 1 1 9 1;p @7 1 1 10 0;\
+         p @7 0 1 15 14;p @7 1 1 15 14;x @7 0 1;p @17 1 1 0 0;p @17 1 1 2 0;p @7 0 @17 0 0;\
+         p @7 0 @17 1 1;p @17 0 @7 0 0;p @17 1 @7 8 8;p @6 1 @3 0 0;p @3 0 @6 0 0;p @5 0 @3 0 0;\
+         end",
+        "open accepted used 0;rule 2 used 1;rule 3 used 2;rule 4 used 3;rule 5 used 4;\
+         rule 6 used 5;rule 7 used 6;rule 9 used 8;row 3 used 8;row 12 used 8;row 0 used 8;\
+         refused 15 used 8;row 12 used 8;row 3 used 8;refused 15 used 8;refused 15 used 8;\
+         row 14 used 8;rule inner used 8;row 2 used 8;row 12 used 8;row 2 used 8;\
+         refused 15 used 8;refused 15 used 8;row 11 used 8;row 15 used 8;row 12 used 8;\
+         row 3 used 8;end used 8;node 2 0101010101010101;node 3 0011001100110011;\
+         node 4 0001000100010001;node 5 0000111100001111;node 6 0000000011111111;\
+         node 7 0000000000001111;node 9 0001000100011111;node inner 0011001100111111;sum 17697",
+    ),
+    // The same in 0 2 1 3, where x1 + x3 stands within it too: the rows are no others.
+    (
+        "list 9r;o 4 0213 0;f 0;f 1;j 1 @1 @2;f 2;f 3;j 1 @4 @5;j 7 @3 @6;p @7 1 1 0 0;\
+         p @7 1 1 1 0;p @7 0 1 0 0;p @7 0 1 3 3;p @7 1 1 5 4;p 10 1 1 9 1;p @7 1 1 10 0;\
+         p @7 0 1 15 14;p @7 1 1 15 14;x @7 0 1;p @17 1 1 0 0;p @17 1 1 2 0;x @17 2 1;\
+         p @20 1 1 2 0;p @20 0 1 0 0;p @7 0 @20 9 9;p @7 0 @20 5 5;end",
+        "open accepted used 0;rule 2 used 1;rule 3 used 2;rule 4 used 3;rule 5 used 4;\
+         rule 6 used 5;rule 7 used 6;rule 10 used 9;row 3 used 9;row 12 used 9;row 0 used 9;\
+         refused 15 used 9;row 12 used 9;row 3 used 9;refused 15 used 9;refused 15 used 9;\
+         row 14 used 9;rule inner used 9;row 2 used 9;row 12 used 9;rule inner used 9;\
+         row 8 used 9;row 0 used 9;row 9 used 9;refused 15 used 9;end used 9;\
+         node 2 0101010101010101;node 3 0011001100110011;node 4 0001000100010001;\
+         node 5 0000111100001111;node 6 0000000011111111;node 7 0000000000001111;\
+         node 10 0001000100011111;node inner 0011001100111111;node inner 0011001111111111;\
+         sum 21191",
+    ),
+    // Flags 0 and 1 never both set, and x0 where x3 is 1, else x2, of rows 4 to 7, 9, 11, 13, 15.
+    // Then 7 for either node, ahead of 9, and each kind of 9, ahead of 15.
+    (
+        "list 10r;o 4 0123 0;f 0;f 1;j 14 @1 @2;f 2;f 3;c @5 @1 @4;p @6 1 @3 0 0;p @6 1 @3 8 8;\
+         p @6 1 @3 3 3;p @6 1 1 3 3;p @6 1 @3 10 10;p 11 0 5 10 10;p @3 0 @6 0 0;p @3 0 @6 8 8;\
+         p @6 0 @6 0 0;p @6 0 0 0 0;p 1 0 1 0 0;p 0 0 1 15 10;p 12 1 1 0 0;p 11 1 12 0 0;\
+         p 12 2 1 0 0;p 11 1 65535 16 0;p 12 65535 12 16 17;p 11 2 1 0 0;p 11 256 1 0 0;\
+         p 11 65535 0 0 0;p 11 1 1 16 0;p 11 1 1 0 16;p 11 1 1 16 16;p 11 1 1 1024 0;\
+         p 11 1 1 32768 32768;p 11 1 1 0 1;p 11 1 1 14 15;p 0 1 0 5 2;p 11 1 1 15 15;end",
+        "open accepted used 0;rule 2 used 1;rule 3 used 2;rule 5 used 4;rule 6 used 5;\
+         rule 7 used 6;rule 11 used 10;row 4 used 10;row 9 used 10;refused 15 used 10;\
+         row 7 used 10;refused 15 used 10;row 10 used 10;row 7 used 10;row 11 used 10;\
+         refused 15 used 10;refused 15 used 10;refused 15 used 10;row 10 used 10;\
+         refused 7 used 10;refused 7 used 10;refused 7 used 10;refused 7 used 10;\
+         refused 7 used 10;refused 9 used 10;refused 9 used 10;refused 9 used 10;\
+         refused 9 used 10;refused 9 used 10;refused 9 used 10;refused 9 used 10;\
+         refused 9 used 10;refused 9 used 10;refused 9 used 10;refused 9 used 10;row 15 used 10;\
+         end used 10;node 2 0101010101010101;node 3 0011001100110011;node 5 1110111011101110;\
+         node 6 0000111100001111;node 7 0000000011111111;node 11 0000111101010101;sum 21358",
+    ),
+    // 6 before any open. Rows 1 and 2 by x0 XOR x1, rows 0 and 1 by the opposite of x1 within it.
+    (
+        "list 4r;p 1 1 1 0 0;p 9 9 9 9 9;o 2 01 0;f 0;f 1;j 6 @3 @4;x @5 0 1;p @5 1 @6 0 0;\
+         p @5 0 @6 0 0;p @6 1 @5 0 0;p @6 0 @5 0 0;p @6 0 @5 2 0;p @5 1 @6 1 0;p @5 1 @6 1 1;\
+         p @5 1 1 3 3;p @5 0 1 3 3;p @5 0 1 4 0;p @5 0 1 1 2;p 6 1 1 0 0;p @5 1 6 0 0;end",
+        "refused 6 used 0;refused 6 used 0;open accepted used 0;rule 2 used 1;rule 3 used 2;\
+         rule 5 used 4;rule inner used 4;row 1 used 4;row 0 used 4;row 1 used 4;row 2 used 4;\
+         refused 15 used 4;refused 15 used 4;row 1 used 4;refused 15 used 4;row 3 used 4;\
+         refused 9 used 4;refused 9 used 4;refused 7 used 4;refused 7 used 4;end used 4;\
+         node 2 0101;node 3 0011;node 5 0110;node inner 1100;sum 459",
+    ),
+    // One flag.
+    (
+        "list 1r;o 1 0 0;f 0;p @1 1 1 0 0;p @1 0 1 0 0;p @1 1 1 1 0;p @1 1 1 1 1;p @1 0 1 1 0;\
+         p @1 1 @1 1 0;p @1 0 @1 0 0;p 1 1 @1 0 0;p @1 1 1 2 0;p @1 1 1 3 1;p @1 1 1 0 1;end",
+        "open accepted used 0;rule 2 used 1;row 1 used 1;row 0 used 1;refused 15 used 1;\
+         row 1 used 1;row 0 used 1;refused 15 used 1;refused 15 used 1;row 1 used 1;\
+         refused 9 used 1;refused 9 used 1;refused 9 used 1;end used 1;node 2 01;sum 38",
+    ),
+    // Flags 9 and 0 of ten.
+    (
+        "list 2r;o 10 9876543210 0;f 9;f 0;p @1 1 1 0 0;p @1 1 1 512 0;p @1 0 1 511 511;\
+         p @1 1 1 1023 1023;p @1 1 @2 0 0;p @2 0 @1 1 0;p @2 1 1 512 0;p @1 1 1 1024 0;\
+         p @1 1 1 1023 1024;p @1 1 1 512 513;o 11 - 0;p 1 1 1 0 0;end",
+        "open accepted used 0;rule 2 used 1;rule 3 used 2;row 512 used 2;refused 15 used 2;\
+         row 511 used 2;row 1023 used 2;row 513 used 2;row 512 used 2;row 1 used 2;\
+         refused 9 used 2;refused 9 used 2;refused 9 used 2;open refused 1 used 0;\
+         refused 1 used 0;end used 0",
+    ),
     // No cells hold no records, and are sound before any open.
     (
         "list 0;k 1;j 6 @0 1;f 0;t 1 1;w 1 0;w 2 0;w 1 1;o 1 - 5;f 0;k 0;end",
@@ -107,6 +190,15 @@ pub const LISTS: &[(&str, &str)] = &[
     (
         "list 0;g 1 1 0;g 1 0 0;g 1 0 1;g 1 2 1;o 1 1 3;g 1 0 0;o 11 01 4;g 9 9 9;end",
         "answer 1 asked 0 number 0 used 0;refused 14 used 0;refused 9 used 0;refused 7 used 0;\
+         open refused 4 used 3;refused 4 used 3;open refused 1 used 4;refused 1 used 4;end used 4",
+    ),
+    (
+        "list 0;p 1 1 1 0 0;p 0 0 1 0 0;p 1 0 1 0 0;p 1 1 0 0 0;p 1 2 1 0 0;p 1 1 1 1 0;\
+         p 1 1 1 0 1;p 1 1 1 1 1;p 1 1 1 32768 0;p 2 1 1 1 0;p 1 1 2 0 1;o 0 - 7;p 1 1 1 0 0;\
+         p 0 1 1 0 0;p 1 1 1 0 512;o 1 1 3;p 1 1 1 0 0;o 11 01 4;p 9 9 9 9 9;end",
+        "row 0 used 0;row 0 used 0;refused 15 used 0;refused 15 used 0;refused 9 used 0;\
+         refused 9 used 0;refused 9 used 0;refused 9 used 0;refused 9 used 0;refused 7 used 0;\
+         refused 7 used 0;open accepted used 0;row 0 used 0;refused 15 used 0;refused 9 used 0;\
          open refused 4 used 3;refused 4 used 3;open refused 1 used 4;refused 1 used 4;end used 4",
     ),
     // Cells as lent are not; a refused open leaves the state that it was given.
@@ -123,6 +215,10 @@ pub const LISTS: &[(&str, &str)] = &[
          refused 5 bytes kept used 4;open refused 4 used 5;refused 4 used 5;\
          open refused 1 used 65535;refused 1 bytes kept used 65535;refused 1 used 65535;\
          end used 65535",
+    ),
+    (
+        "list 1r+1;p 1 1 1 0 0;o 1 0 4;p 9 2 9 2 1;end",
+        "refused 5 used 0;open refused 5 used 4;refused 5 used 4;end used 4",
     ),
 ];
 
@@ -150,6 +246,27 @@ fn by_pass_rule(code: usize) -> bool {
     })
 }
 
+/// Rows provoked under the rule that a code makes of flag 1 and flag 0, the three flags being free
+/// or fixed in all ways, a digit for each: 0, 1, or 2 where it is free. The row is the first that
+/// has the digits and whose walk under that rule gives the answer.
+fn by_walks(code: usize) -> bool {
+    let made = format!("list 20r\no 3 201 0\nf 1\nf 0\nf 2\nc @3 @2 @1\nj {code} @1 @2\n");
+    let last = |call: String| {
+        let output = play(&sized(&format!("{made}{call}\n")));
+        output.lines().last().expect("an answer").to_string()
+    };
+    let walks: Vec<String> = (0..8).map(|row| last(format!("g @4 @5 {row}"))).collect();
+    (0..54).all(|way: usize| {
+        let (digits, wanted) = ([way % 3, way / 3 % 3, way / 9 % 3], way / 27);
+        let has = |row: usize| (0..3).all(|v| [2, (row >> v) % 2].contains(&digits[v]));
+        let gives = |row: usize| walks[row].starts_with(&format!("answer {wanted} "));
+        let row = (0..8).find(|&row| has(row) && gives(row));
+        let set = |those: &[usize]| (0..3).map(|v| those[digits[v]] << v).sum::<usize>();
+        let found = last(format!("p @4 {wanted} @5 {} {}", set(&[1, 1, 0]), set(&[0, 1, 0])));
+        found.starts_with(&row.map_or("refused 15 ".to_string(), |row| format!("row {row} ")))
+    })
+}
+
 /// The records that ask each flag, the first on which their rules depend, are as many as the nodes
 /// that the collapse leaves.
 fn as_drawn(table: &[usize], order: &[usize]) -> bool {
@@ -170,6 +287,7 @@ pub fn faults() -> Vec<String> {
     }
     faults.extend((0..16).filter(|&code| !by_digits(code)).map(|code| format!("operator {code}")));
     faults.extend((0..16).filter(|&c| !by_pass_rule(c)).map(|code| format!("pass rule {code}")));
+    faults.extend((0..16).filter(|&c| !by_walks(c)).map(|code| format!("provoked under {code}")));
     for table in (0..=3).flat_map(all_tables) {
         let orders = orders(flag_count(&table), &[]).into_iter();
         let differ = orders.filter(|order| !as_drawn(&table, order));

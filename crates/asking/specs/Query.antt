@@ -4,29 +4,32 @@ use mathlib.Core.Path.{_≡_}
 use mathlib.Core.List.{List}
 use Prim.Native.Nat.{ℕ}
 use lib.ListN.{take, drop}
-use Rattle.rule.specs.Results.{Query as PaperQuery, tabulating, walking}
+use Rattle.rule.specs.Results.{Query as PaperQuery, tabulating, walking, provoking}
 use Rattle.rule.specs.Pass.{passOf}
 use Rattle.rule.specs.Calls.{State, Ask}
 use Rattle.store.specs.State.{stateOf}
 use Rattle.asking.specs.declared.answers.Reached.{Reached}
 use Rattle.asking.specs.declared.queries.Query.{Query}
 use Rattle.asking.specs.declared.queries.Query.the-variants as the-query
-use Rattle.asking.specs.Answer.{answerReply, Kind, done-kind, said-kind, answerKind}
+use Rattle.asking.specs.Answer.{answerReply, Kind, done-kind, said-kind, sought-kind, answerKind}
 
 -- a call that makes no rule, by its name in Results.antt
 abbrev pub queryOf : Query → PaperQuery
 queryOf (the-query.Tabulate m length) = tabulating (m .number)
 queryOf (the-query.Walk m pass row) = walking (m .number) (passOf pass) row
+queryOf (the-query.Provoke m wanted p fixed ones) = provoking (m .number) wanted (p .number) fixed ones
 
 -- how many of the bytes, from the first on, it is lent (all of them, where there are fewer): tabulate as many as it says
 abbrev pub queryPart : Query → ℕ
 queryPart (the-query.Tabulate m length) = length
 queryPart (the-query.Walk m pass row) = 0
+queryPart (the-query.Provoke m wanted p fixed ones) = 0
 
 -- the kind of answer that belongs to it
 abbrev pub queryKind : Query → Kind
 queryKind (the-query.Tabulate m length) = done-kind
 queryKind (the-query.Walk m pass row) = said-kind
+queryKind (the-query.Provoke m wanted p fixed ones) = sought-kind
 
 -- one query, from state s, cells c and bytes b: it met its contract, its answer is of the kind that belongs to it, and bytes behind those that it was lent are
 -- as found

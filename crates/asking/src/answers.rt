@@ -1,7 +1,9 @@
 use rule::Done;
 use rule::Made;
 use rule::Said;
+use rule::Sought;
 use store::Passed;
+use store::Provoked;
 use store::Store;
 use store::Stored;
 use store::Walked;
@@ -12,6 +14,7 @@ pub enum Answer {
     Done(Done),
     Made(Made),
     Said(Said),
+    Sought(Sought),
 }
 
 // The state beside the answer.
@@ -53,5 +56,17 @@ pub fn said(walked: Walked) -> Reached
     Reached {
         store,
         answer: Answer::Said(answer),
+    }
+}
+
+// What a provoke reached.
+pub fn sought(provoked: Provoked) -> Reached
+    ensures { λ r. ⌜ (r .store ≡ provoked .store) × (r .answer ≡ Answer.Sought (provoked .answer)) ⌝ }
+{
+    let store = provoked.store;
+    let answer = provoked.answer;
+    Reached {
+        store,
+        answer: Answer::Sought(answer),
     }
 }

@@ -1,6 +1,7 @@
 use crate::answers::Reached;
 use crate::answers::done;
 use crate::answers::said;
+use crate::answers::sought;
 use rule::Node;
 use rule::Pass;
 use store::Passed;
@@ -15,8 +16,22 @@ ghost use Rattle.asking.specs.Query.{Answers};
 // A call that makes no rule, with its arguments.
 pub enum Query {
     // Into so many of the lent bytes, from the first on.
-    Tabulate { rule: Node, length: u16 },
-    Walk { rule: Node, pass: Pass, row: u16 },
+    Tabulate {
+        rule: Node,
+        length: u16,
+    },
+    Walk {
+        rule: Node,
+        pass: Pass,
+        row: u16,
+    },
+    Provoke {
+        rule: Node,
+        wanted: u16,
+        pass: Node,
+        fixed: u16,
+        ones: u16,
+    },
 }
 
 // Tabulate into so many of the lent bytes, from the first on: into all, where there are fewer.
@@ -38,5 +53,12 @@ pub fn ask(store: Store, cells: &[u16], query: Query, bytes: &mut [u8]) -> Reach
     match query {
         Query::Tabulate { rule, length } => done(tabulated(store, cells, rule, length, bytes)),
         Query::Walk { rule, pass, row } => said(store.walk(cells, rule, pass, row)),
+        Query::Provoke {
+            rule,
+            wanted,
+            pass,
+            fixed,
+            ones,
+        } => sought(store.provoke(cells, rule, wanted, pass, fixed, ones)),
     }
 }

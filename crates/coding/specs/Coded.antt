@@ -23,10 +23,10 @@ abbrev pub node : ℕ → Node
 node m = record { number = m }
 
 -- the call of a kind, with its arguments: of the first a join takes the last eight bits; the second of tabulate is how many of the lent bytes it is given, or
--- all where there are fewer. The kind 8 is a walk under a pass rule, its second argument, for the row that is the third; 7 and any other is a walk without one, for
--- the row that is the second.
-abbrev pub requestBy : ℕ → ℕ → ℕ → ℕ → Request
-requestBy kind x y z =
+-- all where there are fewer. The kind 8 is a walk under a pass rule, its second argument, for the row that is the third; 9 a provoke: the rule, the wanted
+-- answer, the pass rule, the fixed flags and those of them that are 1; 7 and any other is a walk without a pass rule, for the row that is the second.
+abbrev pub requestBy : ℕ → ℕ → ℕ → ℕ → ℕ → ℕ → Request
+requestBy kind x y z u v =
     cond (eqb kind 0) the-request.Open
     (cond (eqb kind 1) (the-request.Constant x)
     (cond (eqb kind 2) (the-request.Make (the-making.Flag x))
@@ -35,11 +35,13 @@ requestBy kind x y z =
     (cond (eqb kind 5) (the-request.Make (the-making.Fix (node x) y z))
     (cond (eqb kind 6) (the-request.Ask (the-query.Tabulate (node x) y))
     (cond (eqb kind 8) (the-request.Ask (the-query.Walk (node x) (the-pass.Rule (node y)) z))
-    (the-request.Ask (the-query.Walk (node x) the-pass.EveryRow y)))))))))
+    (cond (eqb kind 9) (the-request.Ask (the-query.Provoke (node x) y (node z) u v))
+    (the-request.Ask (the-query.Walk (node x) the-pass.EveryRow y))))))))))
 
 -- the call that is coded from a word on
 unfoldable pub requestAt : List ℕ → ℕ → Request
-requestAt w at = requestBy (getD w at 0) (getD w (at + 1) 0) (getD w (at + 2) 0) (getD w (at + 3) 0)
+requestAt w at =
+    requestBy (getD w at 0) (getD w (at + 1) 0) (getD w (at + 2) 0) (getD w (at + 3) 0) (getD w (at + 4) 0) (getD w (at + 5) 0)
 
 abbrev pub byteAt : List ℕ → ℕ → ℕ
 byteAt w at = getD w at 0 % 256

@@ -23,8 +23,8 @@ fn byte(word: u16) -> u8
 }
 
 // The call of a kind, with its arguments.
-fn request_by(kind: u16, x: u16, y: u16, z: u16) -> Request
-    ensures { λ r. ⌜ r ≡ requestBy kind x y z ⌝ }
+fn request_by(kind: u16, x: u16, y: u16, z: u16, u: u16, v: u16) -> Request
+    ensures { λ r. ⌜ r ≡ requestBy kind x y z u v ⌝ }
 {
     let code = byte(x);
     match kind {
@@ -55,6 +55,13 @@ fn request_by(kind: u16, x: u16, y: u16, z: u16) -> Request
             pass: Pass::Rule(Node { number: y }),
             row: z,
         }),
+        9 => Request::Ask(Query::Provoke {
+            rule: Node { number: x },
+            wanted: y,
+            pass: Node { number: z },
+            fixed: u,
+            ones: v,
+        }),
         _ => Request::Ask(Query::Walk {
             rule: Node { number: x },
             pass: Pass::EveryRow,
@@ -68,7 +75,14 @@ pub fn request_at(words: &[u16], at: usize) -> Request
     requires { ⌜ at + callWords ≤ length (now words) ⌝ }
     ensures { λ r. ⌜ r ≡ requestAt (now (words .entry)) at ⌝ }
 {
-    request_by(words[at], words[at + 1], words[at + 2], words[at + 3])
+    request_by(
+        words[at],
+        words[at + 1],
+        words[at + 2],
+        words[at + 3],
+        words[at + 4],
+        words[at + 5],
+    )
 }
 
 // The last eight bits of the word at a place.

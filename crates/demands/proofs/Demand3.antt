@@ -2,44 +2,34 @@
 -- Assumes nothing.
 use mathlib.Core.Path.{_≡_, refl, sym, ap, _∙_}
 use mathlib.Core.Logic.{_≢_}
-use mathlib.Core.Bool.{Bool, true, false, not, _&&_}
+use mathlib.Core.Bool.{Bool, true, false, not}
 use mathlib.Core.List.{List, [], _∷_}
 use mathlib.Core.Option.{Option, none, some}
 use Prim.Native.Nat.{ℕ, _+_, _^_, _≤_, _<_}
 use native.Mathlib.Omega.{arith}
-use borrow.Author.Tests.{le-ltb, leb-true, leb-false}
-use lib.Dec.{leb, ltb}
+use borrow.Author.Tests.{le-ltb, ltb-false, leb-false, not-false}
+use lib.Dec.{ltb}
 use lib.ListN.{length, getD, drop}
 use Rattle.rule.specs.Table.{fitLength}
 use Rattle.rule.specs.Order.{fitOrder}
 use Rattle.rule.specs.Cells.{fitCells}
 use Rattle.rule.specs.Walk.{walk, walkValues, tableOf}
-use Rattle.rule.specs.Refusals.{Row, refusal, tabulateRows, walkRows}
+use Rattle.rule.specs.Refusals.{Row, refusal, tabulateRows, walkRows, provokeRows}
 use Rattle.rule.specs.Reply.{Reply, numberOf, Accepted, leaves}
-use Rattle.rule.specs.Calls.{State, Tabulate, Walk}
-use Rattle.rule.specs.Results.{tabulating, walking}
+use Rattle.rule.specs.Calls.{State, Tabulate, Walk, Provoke}
+use Rattle.rule.specs.Results.{tabulating, walking, provoking, answered}
 use Rattle.rule.specs.History.{Asked, open-call, constant-call, making-call, query-call, Call, MeetsBy, OpensBy, Book, inBook}
-use Rattle.rule.specs.Demands.{Gives, PassRuleSays, RuleKept, ObeysBy, Obeys, Demand3}
-use Rattle.theory.proofs.Tests.{and-split}
+use Rattle.rule.specs.Demands.{Gives, PassRuleSays, ProvokedInBook, RuleKept, ObeysBy, Obeys, Demand3}
 use Rattle.theory.proofs.Walks.{length-table, table-row}
-use Rattle.theory.proofs.Refused.{passed}
+use Rattle.theory.proofs.Refused.{passed, refusal-le}
 use Rattle.demands.proofs.Stands.{accepted-reply, accepted-zero, number-of, number-was}
 use Rattle.demands.proofs.Counts.{equally, equally-asked}
 use Rattle.demands.proofs.Packed.{packed-well}
 use Rattle.demands.proofs.Beside.{After, live, shut, steps-from-open, throughout-from-open, agrees-from-open}
 use Rattle.demands.proofs.PassRule as pass-rule
+use Rattle.demands.proofs.Provocation as provocation
 
 -- ---- the number that tabulate gives
-
--- the numbers of these rows are at most so much, and so is the one that they give
-abbrev upTo : ℕ → List Row → Bool
-upTo most [] = true
-upTo most (row ∷ rows) = leb (row .1) most && upTo most rows
-
-refusal-le : (most : ℕ) (rows : List Row) → upTo most rows ≡ true → refusal rows ≤ most
-refusal-le most [] h = omega arith
-refusal-le most ((true, k) ∷ rows) h = leb-true k most (and-split (leb k most) (upTo most rows) h .0)
-refusal-le most ((false, k) ∷ rows) h = refusal-le most rows (and-split (leb k most) (upTo most rows) h .1)
 
 -- under a shut state it is 1, 2 or 4
 shut-le : (a b c : Bool) (rest : List Row) → (a ≡ false → c ≡ false → ⊥) → refusal ((a, 1) ∷ (b, 2) ∷ (c, 4) ∷ rest) ≤ 4
@@ -113,7 +103,38 @@ rule-kept a m t p =
           packed-well (rw (tabulated a m t p bytes after r s′ x h) at z) g;
     }
 
--- ---- the list's own walks
+-- ---- a provoke of two rules in the book
+
+in-book : {s : State} {c : List ℕ} {b : Book} → After s c b → (m p : ℕ) (t u : List ℕ) → inBook b m ≡ some t → inBook b p ≡ some u
+    → (wanted fixed ones : ℕ) (r : Reply) (s′ : State) → Provoke s c m wanted p fixed ones r s′ → ProvokedInBook t wanted u fixed ones r
+in-book {s} {c} (live k) m p t u e f wanted fixed ones r s′ x =
+    let (there-m, is-t) = k .rules m t e in
+    let (there-p, is-u) = k .rules p u f in
+    let by = provocation.lowest (s .n) (s .used) m wanted p fixed ones (s .places) c (x .asks) in
+    let fit = provocation.neither (s .n) (s .used) m wanted p fixed ones (s .places) c (x .asks) (record {
+      few = ltb-false 10 (s .n) (k .few);
+      order-fits = not-false _ (k .order-fits);
+      lent = k .lent;
+      is-sound = k .is-sound;
+      rule = there-m;
+      pass-rule = there-p;
+    }) in
+    (rw (is-t, is-u) at by, fit .0, fit .1)
+in-book {s} {c} (shut g k h) m p t u e f wanted fixed ones r s′ x =
+    let rows = provokeRows (s .n) (s .places) c (s .used) m wanted p fixed ones in
+    let number = ap numberOf (x .asks .answer) ∙ number-of (refusal rows) (answered (s .n) c (provoking m wanted p fixed ones)) in
+    let few = shut-le (ltb 10 (s .n)) false (not (fitOrder (s .n) (s .places))) (drop 2 rows) h in (
+      record {
+        row-is = λ a.
+            let (n-fits, (o, _)) = passed rows refl (accepted-zero (refusal rows) (answered (s .n) c (provoking m wanted p fixed ones)) (x .asks .answer) a) in
+            absurd (h n-fits o);
+        none-is = λ q. absurd (omega (arith, q, number, few));
+      },
+      (λ q. omega (arith, q, number, few)),
+      (λ q. omega (arith, q, number, few)),
+    )
+
+-- ---- the list's own walks and provokes
 
 opens-obey : (b : Book) (q : Asked) (r : Reply) → OpensBy q r → ObeysBy b q r
 opens-obey b (open-call given) r h = tt
@@ -129,6 +150,9 @@ call-obeys (query-call (tabulating m)) x y a = tt
 call-obeys (query-call (walking m none row)) x y a = tt
 call-obeys (query-call (walking m (some p) row)) x (y, _) a =
     λ t e. as-pass-rule a p t e m row (x .answer) (x .state) (record { state = y .state; asks = record { answer = y .asks .answer; bytes-are = refl } })
+call-obeys (query-call (provoking m wanted p fixed ones)) x (y, _) a =
+    λ t u e f.
+    in-book a m p t u e f wanted fixed ones (x .answer) (x .state) (record { state = y .state; asks = record { answer = y .asks .answer; bytes-are = refl } })
 
 -- ---- the list
 
@@ -136,6 +160,7 @@ pub demand3 : Demand3
 demand3 first s cells c b xs ys h =
     record {
       kept = rule-kept (steps-from-open first s cells c b xs ys h);
+      provoked = in-book (steps-from-open first s cells c b xs ys h);
       rewritten = agrees-from-open first s cells c b xs ys h;
       obeyed = throughout-from-open Obeys (λ s c b x y h. opens-obey b (x .asked) (x .answer) h) (λ s c b x y a. call-obeys (x .asked) x y a) first s cells c b xs
           ys h;

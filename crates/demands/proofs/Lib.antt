@@ -16,6 +16,7 @@ pub mod Demand2
 pub mod Packed
 pub mod Beside
 pub mod PassRule
+pub mod Provocation
 pub mod Demand3
 pub mod Reported
 pub mod Pages

@@ -8,9 +8,10 @@ use rule::Node;
 use rule::Order;
 use rule::Pass;
 use rule::Said;
+use rule::Sought;
 ghost use mathlib.Core.Option.{none, some};
 ghost use Rattle.rule.specs.Pass.{passOf};
-ghost use Rattle.rule.specs.Calls.{Build, Check, Walks, Tabulates};
+ghost use Rattle.rule.specs.Calls.{Build, Check, Walks, Provokes, Tabulates};
 ghost use Rattle.exports.specs.Word.{Codes};
 
 // Build: the node count and the root.
@@ -124,5 +125,36 @@ pub extern "C" fn engine_tabulate(
     ) {
         Done::Accepted => answer(0, 0, 0),
         Done::Refused(k) => answer(k, 0, 0),
+    }
+}
+
+// Provoke: the row.
+#[no_mangle]
+pub extern "C" fn engine_provoke(
+    n: u8,
+    places: &[u8; 10],
+    cells: &[u16],
+    used: u16,
+    node: u16,
+    wanted: u16,
+    pass: u16,
+    fixed: u16,
+    ones: u16,
+) -> u64
+    ensures { λ r. ⌜ Codes (Provokes n (now (places .entry)) (now (cells .entry)) used node wanted pass fixed ones) r ⌝ }
+{
+    match provoking::provoke(
+        n,
+        Order { places: *places },
+        cells,
+        used,
+        Node { number: node },
+        wanted,
+        Node { number: pass },
+        fixed,
+        ones,
+    ) {
+        Sought::Row(row) => answer(0, row, 0),
+        Sought::Refused(k) => answer(k, 0, 0),
     }
 }

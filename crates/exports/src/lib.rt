@@ -1,4 +1,4 @@
-// C names for seven of the calls, walk under a pass rule by one of its own, for the programs of bench/ to measure: `rt staticlib exports` makes the library, and
+// C names for eight of the calls, walk under a pass rule by one of its own, for the programs of bench/ to measure: `rt staticlib exports` makes the library, and
 // bench/engine.h declares them for C.
 //
 // Each promises the relation of the call that it wraps, of the reply that its number codes (`specs/Word.antt`): the refusal, 0 where the call is accepted, then
@@ -14,6 +14,7 @@ mod values;
 
 pub use diagram::engine_build;
 pub use diagram::engine_check;
+pub use diagram::engine_provoke;
 pub use diagram::engine_tabulate;
 pub use diagram::engine_walk;
 pub use diagram::engine_walk_under;

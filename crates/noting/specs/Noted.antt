@@ -5,7 +5,7 @@ use mathlib.Core.Path.{_≡_}
 use mathlib.Core.List.{List, [], _∷_, _++_}
 use Prim.Native.Nat.{ℕ, _*_}
 use lib.ListN.{getD, take, drop}
-use Rattle.rule.specs.Results.{Query, tabulating, walking}
+use Rattle.rule.specs.Results.{Query, tabulating, walking, provoking}
 use Rattle.rule.specs.Reply.{Reply, reply, numberOf, valueAt}
 use Rattle.rule.specs.History.{Asked, open-call, constant-call, making-call, query-call, Call}
 
@@ -37,6 +37,7 @@ noteAt a k = take noteWords (drop (k * noteWords) a)
 abbrev pub queryValues : Query → ℕ
 queryValues (tabulating m) = 0
 queryValues (walking m pass row) = 3
+queryValues (provoking m wanted p fixed ones) = 1
 
 abbrev pub askedValues : Asked → ℕ
 askedValues (open-call given) = 0

@@ -3,11 +3,12 @@ use asking::Answer;
 use rule::Done;
 use rule::Made;
 use rule::Said;
+use rule::Sought;
 ghost use mathlib.Core.Path.{_≡_};
 ghost use Prim.Native.Nat.{_+_, _*_, _≤_};
 ghost use lib.ListN.{length};
 ghost use lib.Seq.{sets};
-ghost use Rattle.rule.specs.Answers.{doneReply, madeReply, saidReply};
+ghost use Rattle.rule.specs.Answers.{doneReply, madeReply, saidReply, soughtReply};
 ghost use Rattle.asking.specs.Answer.{answerReply};
 ghost use Rattle.noting.specs.Noted.{noteWords, noteOf, Tells};
 
@@ -75,6 +76,15 @@ fn said(answer: Said) -> Words
     }
 }
 
+fn sought(answer: Sought) -> Words
+    ensures { λ r. ⌜ Tells (r .number) (r .first) (r .second) (r .third) (soughtReply answer) ⌝ }
+{
+    match answer {
+        Sought::Row(row) => accepted(row, 0, 0),
+        Sought::Refused(k) => refused(k),
+    }
+}
+
 fn noted(answer: Answer) -> Words
     ensures { λ r. ⌜ Tells (r .number) (r .first) (r .second) (r .third) (answerReply answer) ⌝ }
 {
@@ -82,6 +92,7 @@ fn noted(answer: Answer) -> Words
         Answer::Done(a) => done(a),
         Answer::Made(a) => made(a),
         Answer::Said(a) => said(a),
+        Answer::Sought(a) => sought(a),
     }
 }
 

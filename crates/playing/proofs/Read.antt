@@ -7,8 +7,8 @@ use native.Mathlib.Omega.{arith}
 use lib.ListN.{length, take, drop}
 use lib.Seq.{drop-drop}
 use Rattle.rule.specs.Walk.{walkValues}
-use Rattle.rule.specs.Results.{madeIn, madeNode, tabulating, walking}
-use Rattle.rule.specs.Refusals.{refusal, openRows, constantRows, makingRows, tabulateRows, walkRows}
+use Rattle.rule.specs.Results.{madeIn, madeNode, tabulating, walking, provoking, answered}
+use Rattle.rule.specs.Refusals.{refusal, openRows, constantRows, makingRows, tabulateRows, walkRows, provokeRows}
 use Rattle.rule.specs.Reply.{Reply, accepted, reply}
 use Rattle.rule.specs.Calls.{State}
 use Rattle.rule.specs.History.{Asked, open-call, constant-call, making-call, query-call, Call, MeetsBy, Calls, Fed, fedOf, feed}
@@ -38,6 +38,8 @@ reply-read s c (query-call (tabulating m)) x (y, _) =
     told (query-call (tabulating m)) [] (refusal (tabulateRows (s .n) (s .places) c (s .used) m (x .lent))) refl (λ i. refl) (y .asks .answer)
 reply-read s c (query-call (walking m pass row)) x (y, _) =
     told (query-call (walking m pass row)) (walkValues c m row) (refusal (walkRows (s .n) (s .places) c (s .used) m pass row)) refl (λ i. refl) (y .asks .answer)
+reply-read s c (query-call (provoking m wanted p fixed ones)) x (y, _) =
+    told (query-call (provoking m wanted p fixed ones)) (answered (s .n) c (provoking m wanted p fixed ones)) (refusal (provokeRows (s .n) (s .places) c (s .used) m wanted p fixed ones)) refl (λ i. refl) (y .asks .answer)
 
 -- ---- the calls of a list
 

@@ -24,7 +24,7 @@ pub record RunKept (w a : List ℕ) (made : ℕ) (xs : List Call) (s : State) (d
   -- they begin with an accepted open
   pub begins : BeginsOpen (fedPlayed w a made)
   -- each rule in the plain book of these calls and the run's own answers (`bookPlayed`) is kept in s and d, each table written over an older one equals it, each
-  -- walk under a pass rule in the book went by the book, and what else demand 3 claims
+  -- walk under a pass rule in the book and each provoke of two rules in it went by the book, and what else demand 3 claims
   pub after : AfterList s d emptyBook (fedPlayed w a made)
 
 -- so it is of whatever run, if it made a call and its first is such an open

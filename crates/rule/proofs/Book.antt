@@ -1,4 +1,4 @@
--- "Tabulate, walk and every refused call, open too, write nothing." (document 01, "The book beside the store"; of tabulate and walk, the queries, `enterBy` says it.)
+-- "Tabulate, walk and every refused call, open too, write nothing." (document 01, "The book beside the store"; of the queries, tabulate, walk and provoke, `enterBy` says it.)
 -- Assumes nothing.
 use mathlib.Core.Path.{_≡_, refl, ap}
 use mathlib.Core.List.{List}

@@ -14,6 +14,8 @@ use Rattle.rule.specs.declared.answer.Made.{Made}
 use Rattle.rule.specs.declared.answer.Made.the-variants as the-made
 use Rattle.rule.specs.declared.answer.Said.{Said}
 use Rattle.rule.specs.declared.answer.Said.the-variants as the-said
+use Rattle.rule.specs.declared.answer.Sought.{Sought}
+use Rattle.rule.specs.declared.answer.Sought.the-variants as the-sought
 use Rattle.rule.specs.declared.answer.Loaded.{Loaded}
 use Rattle.rule.specs.declared.answer.Loaded.the-variants as the-loaded
 use Rattle.rule.specs.declared.answer.Written.{Written}
@@ -52,6 +54,11 @@ madeReply (the-made.Refused k) = refused k (0 ∷ [])
 abbrev pub saidReply : Said → Reply
 saidReply (the-said.Answer answer asked count) = accepted (answer ∷ asked ∷ count ∷ [])
 saidReply (the-said.Refused k) = refused k (0 ∷ 0 ∷ 0 ∷ [])
+
+-- provoke: the row
+abbrev pub soughtReply : Sought → Reply
+soughtReply (the-sought.Row row) = accepted (row ∷ [])
+soughtReply (the-sought.Refused k) = refused k (0 ∷ [])
 
 -- read: n, the record count, the root, and the order's ten places
 abbrev pub loadedReply : Order → Loaded → Reply

@@ -1,7 +1,7 @@
 -- Each call's outcome: a relation between what it is given and what it leaves, accepted or refused (document 01). A call's contract is exactly its
 -- relation here, at its answer's reply; the file calls are in Files.antt, print in Sheet.antt. What the papers leave free is the sequence of a store's
--- records, with the node numbers that follow from it. Buffers that are lent to be read alone (a table, the cells of check, walk, tabulate, write and print)
--- stay as they are: the language sees to it.
+-- records, with the node numbers that follow from it. Buffers that are lent to be read alone (a table, the cells of check, walk, tabulate, provoke, write and
+-- print) stay as they are: the language sees to it.
 -- Assumes nothing.
 use mathlib.Core.Path.{_≡_}
 use mathlib.Core.Bool.{true, cond, _||_}
@@ -17,7 +17,7 @@ use Rattle.rule.specs.Cells.{width}
 use Rattle.rule.specs.Walk.{tableOf}
 use Rattle.rule.specs.Sound.{sound}
 use Rattle.rule.specs.Sequence.{drawing}
-use Rattle.rule.specs.Results.{Making, flag, join, choose, fix, madeIn, lacking, needed, rootBy, madeNode, Query, tabulating, walking, answered}
+use Rattle.rule.specs.Results.{Making, flag, join, choose, fix, madeIn, lacking, needed, rootBy, madeNode, Query, tabulating, walking, provoking, answered}
 use Rattle.rule.specs.Refusals.{refusal, buildRows, checkRows, queryRows, openRows, constantRows, makingRows, packRows}
 use Rattle.rule.specs.Reply.{Reply, reply, leaves}
 
@@ -36,6 +36,7 @@ Check n order c used root r = r ≡ reply (refusal (checkRows n order c used roo
 abbrev pub lentAfter : ℕ → ℕ → List ℕ → Query → List ℕ → List ℕ
 lentAfter k n c (tabulating m) lent = leaves k (tableOf n c m) lent
 lentAfter k n c (walking m pass row) lent = lent
+lentAfter k n c (provoking m wanted p fixed ones) lent = lent
 
 -- a call that makes no rule: "these .. take any node of sound cells"
 pub record Asks (n : ℕ) (order c : List ℕ) (used : ℕ) (q : Query) (lent : List ℕ) (r : Reply) (after : List ℕ) : Type 0 where
@@ -46,6 +47,10 @@ pub record Asks (n : ℕ) (order c : List ℕ) (used : ℕ) (q : Query) (lent : 
 -- the pass rule that it "may be given" may forbid (request 5); it is lent no bytes
 abbrev pub Walks : ℕ → List ℕ → List ℕ → ℕ → ℕ → Option ℕ → ℕ → Reply → Type 0
 Walks n order c used m pass row r = Asks n order c used (walking m pass row) [] r []
+
+-- "Hand back the lowest row that the pass rule allows, that has the fixed values and gives the wanted answer" (request 8); it is lent no bytes
+abbrev pub Provokes : ℕ → List ℕ → List ℕ → ℕ → ℕ → ℕ → ℕ → ℕ → ℕ → Reply → Type 0
+Provokes n order c used m wanted p fixed ones r = Asks n order c used (provoking m wanted p fixed ones) [] r []
 
 -- "tabulate a rule into lent bytes"
 abbrev pub Tabulates : ℕ → List ℕ → List ℕ → ℕ → ℕ → List ℕ → Reply → List ℕ → Type 0
@@ -70,6 +75,9 @@ pub record Ask (s : State) (c : List ℕ) (q : Query) (lent : List ℕ) (r : Rep
 
 abbrev pub Walk : State → List ℕ → ℕ → Option ℕ → ℕ → Reply → State → Type 0
 Walk s c m pass row r s′ = Ask s c (walking m pass row) [] r s′ []
+
+abbrev pub Provoke : State → List ℕ → ℕ → ℕ → ℕ → ℕ → ℕ → Reply → State → Type 0
+Provoke s c m wanted p fixed ones r s′ = Ask s c (provoking m wanted p fixed ones) [] r s′ []
 
 abbrev pub Tabulate : State → List ℕ → ℕ → List ℕ → Reply → State → List ℕ → Type 0
 Tabulate s c m bytes r s′ after = Ask s c (tabulating m) bytes r s′ after

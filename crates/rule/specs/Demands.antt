@@ -1,7 +1,7 @@
--- Demands 2 and 3, each as one statement over the outcomes of Calls.antt, Files.antt and Sheet.antt, and six more: what holds of the set and the number that
--- a walk hands back, which walks a pass rule refuses, which order pack takes of several, in which sequence records stand, that what the writer writes the reader
--- reads, and that printed pages give back every record. (Demand 1 is the contracts themselves: no call has a condition, each gives its number and every lent
--- buffer, and the check proves that it reads, writes and ends within what it was given.)
+-- Demands 2 and 3, each as one statement over the outcomes of Calls.antt, Files.antt and Sheet.antt, and seven more: what holds of the set and the number that
+-- a walk hands back, which walks a pass rule refuses, which row provoke hands back, which order pack takes of several, in which sequence records stand, that
+-- what the writer writes the reader reads, and that printed pages give back every record. (Demand 1 is the contracts themselves: no call has a condition, each
+-- gives its number and every lent buffer, and the check proves that it reads, writes and ends within what it was given.)
 -- Assumes nothing.
 use mathlib.Core.Path.{_≡_}
 use mathlib.Core.Logic.{_≢_, _↔_}
@@ -23,10 +23,11 @@ use Rattle.rule.specs.Sound.{sound}
 use Rattle.rule.specs.Diagram.{diagram, asking}
 use Rattle.rule.specs.Sequence.{inSequence, drawing}
 use Rattle.rule.specs.Reduced.{DrawnAs}
-use Rattle.rule.specs.Results.{Making, madeIn, needed, rootBy, Query, tabulating, walking}
+use Rattle.rule.specs.Provoke.{Serves, NoneServes}
+use Rattle.rule.specs.Results.{Making, madeIn, needed, rootBy, Query, tabulating, walking, provoking}
 use Rattle.rule.specs.Refusals.{refusal, flagCount, orderPlaces, cells, records, node, rowArgument}
 use Rattle.rule.specs.Reply.{Reply, accepted, refused, reply, numberOf, Accepted}
-use Rattle.rule.specs.Calls.{State, Build, Check, Walks, Tabulates, Tabulate, Walk, Make, Pack}
+use Rattle.rule.specs.Calls.{State, Build, Check, Walks, Provokes, Tabulates, Tabulate, Walk, Provoke, Make, Pack}
 use Rattle.rule.specs.Files.{bytesOf, reading, recordsFiled, labelOf, Reads, Writes}
 use Rattle.rule.specs.Sheet.{lineLength, pageLines, pageBytes, pagesFor, sheetLines, sheet, Prints, linesIn, readPages}
 use Rattle.rule.specs.History.{Asked, open-call, constant-call, making-call, query-call, Call, Calls, Fed, feed, Opens, BeginsOpen, Book, inBook, enter, bookOf}
@@ -138,6 +139,16 @@ pub record AnswersAs (s : State) (c : List ℕ) (m : ℕ) (t : List ℕ) : Type 
   pub as-pass-rule : (k row : ℕ) (r : Reply) (s′ : State) → Walk s c k (some m) row r s′ → PassRuleSays t row r
   pub there : (bytes after : List ℕ) (r : Reply) (s′ : State) → Tabulate s c m bytes r s′ after → (numberOf r ≢ 6) × (numberOf r ≢ 7)
 
+-- what two tables have, by the answer of a provoke: where it is accepted, it hands back "the lowest row" that serves; where it is refused under 15, none does
+pub record ProvokedBy (rule : List ℕ) (wanted : ℕ) (pass : List ℕ) (fixed ones : ℕ) (r : Reply) : Type 0 where
+  pub row-is : Accepted r
+      → (row : ℕ) × Gives r (row ∷ []) × Serves rule wanted pass fixed ones row × ((other : ℕ) → Serves rule wanted pass fixed ones other → row ≤ other)
+  pub none-is : numberOf r ≡ 15 → NoneServes rule wanted pass fixed ones
+
+-- a provoke of two rules in the book, by its tables of them: it answers by these, and gives neither 6 nor 7
+abbrev pub ProvokedInBook : List ℕ → ℕ → List ℕ → ℕ → ℕ → Reply → Type 0
+ProvokedInBook t wanted u fixed ones r = ProvokedBy t wanted u fixed ones r × (numberOf r ≢ 6) × (numberOf r ≢ 7)
+
 -- "its packed diagram tabulates to that same table; the node count handed back is the number of its records, and every other order of the flags draws
 -- the table with at least as many"
 pub record PackedWell (n : ℕ) (t order : List ℕ) (nodes root : ℕ) (d : List ℕ) : Type 0 where
@@ -167,11 +178,13 @@ pub record RuleKept (s : State) (c : List ℕ) (m : ℕ) (t : List ℕ) : Type 0
 abbrev pub Agrees : Book → Fed → Type 0
 Agrees b e = (m : ℕ) (t u : List ℕ) → inBook b m ≡ some t → inBook (enter b e) m ≡ some u → (Opens e → ⊥) → t ≡ u
 
--- of a walk under a pass rule that is in the book (request 5): the book has in the walk's row what `PassRuleSays` says
+-- of a walk under a pass rule that is in the book (request 5): the book has in the walk's row what `PassRuleSays` says; of a provoke of a rule and a pass rule
+-- that are both in the book (request 8): what `ProvokedInBook` says
 abbrev pub QueryObeys : Book → Query → Reply → Type 0
 QueryObeys b (tabulating m) r = Unit {0}
 QueryObeys b (walking m none row) r = Unit {0}
 QueryObeys b (walking m (some p) row) r = (t : List ℕ) → inBook b p ≡ some t → PassRuleSays t row r
+QueryObeys b (provoking m wanted p fixed ones) r = (t u : List ℕ) → inBook b m ≡ some t → inBook b p ≡ some u → ProvokedInBook t wanted u fixed ones r
 
 -- of any other call nothing is said
 abbrev pub ObeysBy : Book → Asked → Reply → Type 0
@@ -209,6 +222,8 @@ EquallyAsked n t =
 -- what is claimed of a list of calls that has led to state s and cells c, where b is the book before it and es is what it is fed
 pub record AfterList (s : State) (c : List ℕ) (b : Book) (es : List Fed) : Type 0 where
   pub kept : (m : ℕ) (t : List ℕ) → inBook (bookOf b es) m ≡ some t → RuleKept s c m t
+  pub provoked : (m p : ℕ) (t u : List ℕ) → inBook (bookOf b es) m ≡ some t → inBook (bookOf b es) p ≡ some u
+      → (wanted fixed ones : ℕ) (r : Reply) (s′ : State) → Provoke s c m wanted p fixed ones r s′ → ProvokedInBook t wanted u fixed ones r
   pub rewritten : Throughout Agrees b es
   pub obeyed : Throughout Obeys b es
   pub equally : (n : ℕ) (t : List ℕ) → EquallyMany n t
@@ -277,6 +292,56 @@ pub record PassRule : Type 0 where
       × (numberOf q ≡ 0 → used + 1 < p → numberOf r ≡ 7) × (numberOf q ≡ 9 → used + 1 < p → numberOf r ≡ 7)
   -- the pass rule "yes" is the same as none
   pub yes : (n used m row : ℕ) (order c : List ℕ) (r : Reply) → Walks n order c used m (some 1) row r ↔ Walks n order c used m none row r
+
+-- ---- a snapshot to provoke a release (request 8)
+
+-- what refusal 9 asks of a provoke: no "wanted answer above 1", no "set bit at or above n", no "1 outside the fixed set"
+pub record AimFits (n wanted fixed ones : ℕ) : Type 0 where
+  pub wanted-fits : wanted ≤ 1
+  pub fixed-below : (i : ℕ) → bit fixed i ≡ 1 → i < n
+  pub ones-below : (i : ℕ) → bit ones i ≡ 1 → i < n
+  pub ones-fixed : (i : ℕ) → bit ones i ≡ 1 → bit fixed i ≡ 1
+
+-- what its other checks ask of the cells and the two nodes: it meets none of 1 4 5 6, 7 for the rule, 7 for the pass rule
+pub record NodesFit (n used m p : ℕ) (order c : List ℕ) : Type 0 where
+  pub few : n ≤ 10
+  pub order-fits : fitOrder n order ≡ true
+  pub lent : fitCells c ≡ true
+  pub is-sound : sound n order c used ≡ true
+  pub rule : m ≤ used + 1
+  pub pass-rule : p ≤ used + 1
+
+-- of a provoke of rule m under pass rule p, and so of a store's: its `Provoke` has this relation in its field `asks`
+pub record Provocation : Type 0 where
+  -- "Hand back the lowest row that the pass rule allows, that has the fixed values and gives the wanted answer."
+  pub lowest : (n used m wanted p fixed ones : ℕ) (order c : List ℕ) (r : Reply) → Provokes n order c used m wanted p fixed ones r
+      → ProvokedBy (tableOf n c m) wanted (tableOf n c p) fixed ones r
+  -- "Past the other checks, refuse exactly when there is no such row": under 15
+  pub none : (n used m wanted p fixed ones : ℕ) (order c : List ℕ) (r : Reply) → Provokes n order c used m wanted p fixed ones r
+      → (numberOf r ≡ 15) ↔ (NodesFit n used m p order c × AimFits n wanted fixed ones × NoneServes (tableOf n c m) wanted (tableOf n c p) fixed ones)
+  -- and accepted exactly when there is one
+  pub some-row : (n used m wanted p fixed ones : ℕ) (order c : List ℕ) (r : Reply) → Provokes n order c used m wanted p fixed ones r
+      → Accepted r
+      ↔ (NodesFit n used m p order c × AimFits n wanted fixed ones × ((row : ℕ) × Serves (tableOf n c m) wanted (tableOf n c p) fixed ones row))
+  -- "a wanted answer above 1, a set bit at or above n, or a 1 outside the fixed set, gives 9"
+  pub nine : (n used m wanted p fixed ones : ℕ) (order c : List ℕ) (r : Reply) → Provokes n order c used m wanted p fixed ones r
+      → (numberOf r ≡ 9) ↔ (NodesFit n used m p order c × (AimFits n wanted fixed ones → ⊥))
+  -- a refusal hands back its number and a zero; any other number comes of the cells and the two nodes alone, whatever is wanted and fixed; it is never 14
+  pub refuses : (n used m wanted p fixed ones : ℕ) (order c : List ℕ) (r : Reply) → Provokes n order c used m wanted p fixed ones r → numberOf r ≢ 0
+      → (r ≡ refused (numberOf r) (0 ∷ []))
+      × (numberOf r ≢ 9 → numberOf r ≢ 15
+      → numberOf r ≡ refusal (flagCount n ∷ orderPlaces n order ∷ cells c ∷ records n order c used ∷ node used m ∷ node used p ∷ []))
+      × (numberOf r ≢ 14)
+  -- "which is a fact about the tables and not about the walk": where the same two tables stand in other cells, under another order or in another sequence, and
+  -- both calls are past 1 to 7, both answer alike
+  pub alike : (n used m used′ m′ wanted p p′ fixed ones : ℕ) (order c order′ c′ : List ℕ) (r q : Reply) → Provokes n order c used m wanted p fixed ones r
+      → Provokes n order′ c′ used′ m′ wanted p′ fixed ones q → NodesFit n used m p order c → NodesFit n used′ m′ p′ order′ c′
+      → tableOf n c m ≡ tableOf n c′ m′ → tableOf n c p ≡ tableOf n c′ p′ → r ≡ q
+  -- "wants a row to play": walking the rule for it, under that pass rule, is accepted and answers what was wanted
+  pub played : (n used m wanted p fixed ones row : ℕ) (order c : List ℕ) (r q : Reply) → Provokes n order c used m wanted p fixed ones r → Gives r (row ∷ [])
+      → Walks n order c used m (some p) row q → (set : ℕ) × (count : ℕ) × Gives q (wanted ∷ set ∷ count ∷ [])
+  -- who has no pass rule gives node 1, which allows each row
+  pub every-row : (n row : ℕ) (c : List ℕ) → row < 2 ^ n → getD (tableOf n c 1) row 0 ≡ 1
 
 -- ---- the packed order
 

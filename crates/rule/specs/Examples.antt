@@ -11,12 +11,12 @@ use lib.ListN.{length, getD, replicate}
 use Rattle.rule.specs.Tests.{each, same}
 use Rattle.rule.specs.Level.{size, askedTotal, rowsAsking}
 use Rattle.rule.specs.Order.{inPlaces, rising, askedBefore, orders, packed}
-use Rattle.rule.specs.Results.{rootBy, walking, answered}
+use Rattle.rule.specs.Results.{rootBy, walking, provoking, answered}
 use Rattle.rule.specs.Cells.{width, RecordValues, recordCells}
 use Rattle.rule.specs.Walk.{tableOf, walksAsking, askedInAll}
 use Rattle.rule.specs.Diagram.{diagram}
 use Rattle.rule.specs.Sequence.{inSequence, drawing}
-use Rattle.rule.specs.Refusals.{refusal, walkRows}
+use Rattle.rule.specs.Refusals.{refusal, walkRows, provokeRows}
 use Rattle.rule.specs.Reply.{Reply, reply, numberOf, valuesOf}
 use Rattle.rule.specs.Files.{reading, readNumber, readValues, readCells, writeRows}
 use Rattle.rule.specs.Text.{text}
@@ -59,6 +59,9 @@ pub data Example : Type 0 where
   walks : String → List RecordValues → ℕ → ℕ → ℕ → List ℕ → Example
   -- and so the walk from the first node, under the second as its pass rule
   walksUnder : String → List RecordValues → ℕ → ℕ → ℕ → ℕ → List ℕ → Example
+  -- in records under this order a provoke of the first node, with this wanted answer, the second node as its pass rule, and these sets, the fixed flags and
+  -- those of them that are 1, has this number and these values
+  provokes : String → List RecordValues → ℕ → ℕ → ℕ → ℕ → ℕ → ℕ → List ℕ → Example
   -- the cells of the table under the order hold these records, and 0 past them; their neighbours pass the test of the sequence
   stands : String → String → List RecordValues → Example
   -- the records are the diagram of the table under the order, in another sequence
@@ -94,9 +97,17 @@ branch flag low high = record { flag = flag; low = low; high = high }
 abbrev pub majority : List RecordValues
 majority = branch 2 0 1 ∷ branch 1 0 2 ∷ branch 1 2 1 ∷ branch 0 3 4 ∷ []
 
+-- the same with flag 2 asked first
+abbrev pub turned : List RecordValues
+turned = branch 1 0 1 ∷ branch 0 0 2 ∷ branch 0 2 1 ∷ branch 2 3 4 ∷ []
+
 -- yes where flags 0 and 2 are 1, or 1 and 3: the listing's example
 abbrev pub eitherPair : List RecordValues
 eitherPair = branch 3 0 1 ∷ branch 1 0 2 ∷ branch 2 3 1 ∷ branch 0 3 4 ∷ []
+
+-- yes where flags 0 and 1 are 1, or 2 and 3: document 001's x1x2 + x3x4
+abbrev pub neighbours : List RecordValues
+neighbours = branch 3 0 1 ∷ branch 2 0 2 ∷ branch 1 3 1 ∷ branch 0 3 4 ∷ []
 
 -- yes where flag 0 is 0 and flags 1 and 2 are 1, or flags 0 and 1 are: two records of one level have one low node
 abbrev pub oneLow : List RecordValues
@@ -119,6 +130,12 @@ isInSequence o rs = inSequence (length (digits o)) (inPlaces (digits o)) (record
 abbrev pub walkReply : List ℕ → List RecordValues → ℕ → Option ℕ → ℕ → Reply
 walkReply o rs m pass row =
     reply (refusal (walkRows (length o) (inPlaces o) (recordCells rs) (length rs) m pass row)) (answered (length o) (recordCells rs) (walking m pass row))
+
+-- what a provoke in just these records hands back
+abbrev pub provokeReply : List ℕ → List RecordValues → ℕ → ℕ → ℕ → ℕ → ℕ → Reply
+provokeReply o rs m wanted p fixed ones =
+    reply (refusal (provokeRows (length o) (inPlaces o) (recordCells rs) (length rs) m wanted p fixed ones))
+    (answered (length o) (recordCells rs) (provoking m wanted p fixed ones))
 
 -- the table's diagram under the order in just as many cells as it needs, and its root
 abbrev pub drawnCells : List ℕ → List ℕ → List ℕ
@@ -151,6 +168,7 @@ holds (refusedLabel many k) = eqb (refusal (writeRows 0 (rising 0) [] 0 0 (repli
 holds (draws t o rs) = isDrawn t o rs
 holds (walks o rs m row k values) = tells (walkReply (digits o) rs m none row) k values
 holds (walksUnder o rs m p row k values) = tells (walkReply (digits o) rs m (some p) row) k values
+holds (provokes o rs m wanted p fixed ones k values) = tells (provokeReply (digits o) rs m wanted p fixed ones) k values
 holds (stands t o rs) =
     same (drawing (flagsOf (digits t)) (inPlaces (digits o)) (digits t) lentCells) (inLent rs) && isInSequence o rs
 holds (strays t o rs) = isDrawn t o rs && not (isInSequence o rs)
@@ -296,4 +314,52 @@ examples =
     ∷ asksInAll "0001110001001010" "2301" 52
     ∷ asksInAll "0001110001001010" "0213" 52
     ∷ order "0001110001001010" "0213"
+    -- request 8: with all rows allowed (node 1) yes is lowest in row 3, though the diagram's first path to yes leads to row 12; with flag 0 fixed to 0 in row 12
+    ∷ draws "0001000100011111" "0123" neighbours
+    ∷ provokes "0123" neighbours 5 1 1 0 0 0 (3 ∷ [])
+    ∷ provokes "0123" neighbours 5 1 1 1 0 0 (12 ∷ [])
+    -- flags fixed to 1, the highest too, and all of them
+    ∷ provokes "0123" neighbours 5 1 1 4 4 0 (7 ∷ [])
+    ∷ provokes "0123" neighbours 5 1 1 9 8 0 (12 ∷ [])
+    ∷ provokes "0123" neighbours 5 0 1 10 8 0 (8 ∷ [])
+    ∷ provokes "0123" neighbours 5 1 1 15 13 0 (13 ∷ [])
+    ∷ provokes "0123" neighbours 5 1 1 15 5 15 (0 ∷ [])
+    -- no is wanted, which with flags 0 and 1 fixed to 1 no row gives, nor one that the pass rule "flags 2 and 3" (node 3) or the rule itself allows; "no"
+    -- (node 0) allows none
+    ∷ provokes "0123" neighbours 5 0 1 0 0 0 (0 ∷ [])
+    ∷ provokes "0123" neighbours 5 0 1 3 3 15 (0 ∷ [])
+    ∷ provokes "0123" neighbours 5 1 3 0 0 0 (12 ∷ [])
+    ∷ provokes "0123" neighbours 5 0 3 0 0 15 (0 ∷ [])
+    ∷ provokes "0123" neighbours 5 1 5 0 0 0 (3 ∷ [])
+    ∷ provokes "0123" neighbours 5 0 5 0 0 15 (0 ∷ [])
+    ∷ provokes "0123" neighbours 5 1 0 0 0 15 (0 ∷ [])
+    -- an inner node as the rule, under the whole rule; an end node as the rule
+    ∷ provokes "0123" neighbours 3 0 5 0 0 0 (3 ∷ [])
+    ∷ provokes "0123" neighbours 1 1 5 0 0 0 (3 ∷ [])
+    ∷ provokes "0123" neighbours 0 1 1 0 0 15 (0 ∷ [])
+    -- 9 for each of its four tests, alone or with another, ahead of 15; bits 10 and 15 too
+    ∷ provokes "0123" neighbours 5 2 0 0 0 9 (0 ∷ [])
+    ∷ provokes "0123" neighbours 5 1 0 16 0 9 (0 ∷ [])
+    ∷ provokes "0123" neighbours 5 1 1 16 16 9 (0 ∷ [])
+    ∷ provokes "0123" neighbours 5 1 1 0 16 9 (0 ∷ [])
+    ∷ provokes "0123" neighbours 5 1 1 1024 0 9 (0 ∷ [])
+    ∷ provokes "0123" neighbours 5 1 1 32768 32768 9 (0 ∷ [])
+    ∷ provokes "0123" neighbours 5 1 1 0 1024 9 (0 ∷ [])
+    ∷ provokes "0123" neighbours 5 1 1 4 2 9 (0 ∷ [])
+    -- 7, for the pass rule as for the rule, ahead of 9; 6, under another order, ahead of 7
+    ∷ provokes "0123" neighbours 6 2 1 0 0 7 (0 ∷ [])
+    ∷ provokes "0123" neighbours 5 2 6 0 0 7 (0 ∷ [])
+    ∷ provokes "3210" neighbours 6 2 6 0 0 6 (0 ∷ [])
+    -- rows go by number, whatever the order: the same rule in two orders, in one of which the first path leads to row 6; and "flag 0 or flag 1" with flag 0
+    -- asked first, where it leads to row 2
+    ∷ draws "00010111" "201" turned
+    ∷ provokes "012" majority 5 1 1 0 0 0 (3 ∷ [])
+    ∷ provokes "201" turned 5 1 1 0 0 0 (3 ∷ [])
+    ∷ provokes "201" turned 5 1 1 2 0 0 (5 ∷ [])
+    ∷ provokes "201" turned 4 1 1 0 0 0 (1 ∷ [])
+    -- with no flags both sets must be 0
+    ∷ provokes "" [] 1 1 1 0 0 0 (0 ∷ [])
+    ∷ provokes "" [] 0 1 1 0 0 15 (0 ∷ [])
+    ∷ provokes "" [] 1 1 1 1 0 9 (0 ∷ [])
+    ∷ provokes "" [] 1 1 1 1 1 9 (0 ∷ [])
     ∷ []

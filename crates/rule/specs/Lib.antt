@@ -11,6 +11,7 @@ pub mod Diagram
 pub mod Sequence
 pub mod Reduced
 pub mod Pass
+pub mod Provoke
 pub mod Results
 pub mod Refusals
 pub mod Reply

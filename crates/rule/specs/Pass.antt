@@ -1,4 +1,5 @@
--- The pass rule that a walk may be given (document 02, request 5): "a second node in the same store"; where there is none, every row may happen.
+-- The pass rule that a walk may be given (document 02, request 5) and that a provoke names (request 8): "a second node in the same store"; where a walk has none,
+-- every row may happen.
 -- Assumes nothing.
 use mathlib.Core.Bool.{Bool, false}
 use mathlib.Core.List.{List, [], _∷_}
@@ -20,7 +21,11 @@ abbrev pub passNodes : Option ℕ → List ℕ
 passNodes none = []
 passNodes (some p) = p ∷ []
 
--- "a row for which it says no can't happen": its table has 0 in that row (tested behind 7 and 9, where the node and the row are there)
+-- a rule, by its table, "says no" in a row: it has 0 there
+abbrev pub saysNo : List ℕ → ℕ → Bool
+saysNo t row = eqb (getD t row 0) 0
+
+-- "a row for which it says no can't happen" (tested behind 7 and 9, where the node and the row are there)
 abbrev pub forbids : ℕ → List ℕ → Option ℕ → ℕ → Bool
 forbids n c none row = false
-forbids n c (some p) row = eqb (getD (tableOf n c p) row 0) 0
+forbids n c (some p) row = saysNo (tableOf n c p) row

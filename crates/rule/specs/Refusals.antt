@@ -1,11 +1,12 @@
--- The refusal table, row by row, and for every call the rows that it tests, in its sequence (document 01, "Refused, by where it is found"; 14: document 02, request 5).
+-- The refusal table, row by row, and for every call the rows that it tests, in its sequence (document 01, "Refused, by where it is found"; 14 and 15:
+-- document 02, requests 5 and 8).
 -- The reader's own sequence and the writer's rows are in Files.antt, print's rows in Sheet.antt.
 -- Assumes nothing.
 use mathlib.Core.Bool.{Bool, true, false, not, _&&_, _||_}
 use mathlib.Core.List.{List, [], _∷_, _++_, map}
 use mathlib.Core.Option.{Option}
 use Prim.Native.Nat.{ℕ, _+_, _^_}
-use lib.Dec.{leb, ltb}
+use lib.Dec.{eqb, leb, ltb}
 use lib.ListN.{length}
 use Rattle.rule.specs.Table.{fitLength, fitRows}
 use Rattle.rule.specs.Level.{size}
@@ -14,7 +15,8 @@ use Rattle.rule.specs.Cells.{fitCells, room}
 use Rattle.rule.specs.Sound.{sound}
 use Rattle.rule.specs.Diagram.{allReached}
 use Rattle.rule.specs.Pass.{passNodes, forbids}
-use Rattle.rule.specs.Results.{Making, flag, join, choose, fix, rulesAmong, madeIn, needed, free, Query, tabulating, walking}
+use Rattle.rule.specs.Provoke.{onesFixed, servingIn}
+use Rattle.rule.specs.Results.{Making, flag, join, choose, fix, rulesAmong, madeIn, needed, free, Query, tabulating, walking, provoking}
 
 -- a row of the table: whether it applies, and its number
 abbrev pub Row : Type 0
@@ -79,9 +81,17 @@ flagArgument n i = (leb n i, 9)
 abbrev pub operatorArgument : ℕ → Row
 operatorArgument code = (ltb 15 code, 9)
 
--- "constant or fixed value above 1"
+-- "constant or fixed value above 1"; "a wanted answer above 1" (request 8)
 abbrev pub valueArgument : ℕ → Row
 valueArgument v = (ltb 1 v, 9)
+
+-- "a set bit at or above n" (request 8): the set's number is not below 2^n
+abbrev pub setArgument : ℕ → ℕ → Row
+setArgument n set = (leb (2 ^ n) set, 9)
+
+-- "a 1 outside the fixed set" (request 8)
+abbrev pub onesArgument : ℕ → ℕ → Row
+onesArgument fixed ones = (not (onesFixed fixed ones), 9)
 
 -- "records needed exceed those free"
 abbrev pub result : ℕ → ℕ → Row
@@ -90,6 +100,10 @@ result need have = (ltb have need, 10)
 -- "row that the pass rule forbids" (request 5)
 abbrev pub passArgument : ℕ → List ℕ → Option ℕ → ℕ → Row
 passArgument n c pass r = (forbids n c pass r, 14)
+
+-- "no such row" (request 8), where these are the rows that serve
+abbrev pub noSuchRow : List ℕ → Row
+noSuchRow rows = (eqb (length rows) 0, 15)
 
 -- ---- the calls
 
@@ -119,10 +133,26 @@ abbrev pub tabulateRows : ℕ → List ℕ → List ℕ → ℕ → ℕ → List
 tabulateRows n o c used m bytes =
     flagCount n ∷ tableLength n bytes ∷ orderPlaces n o ∷ cells c ∷ records n o c used ∷ node used m ∷ []
 
+-- what refusal 9 tests of a wanted answer and two sets (request 8)
+abbrev pub aimRows : ℕ → ℕ → ℕ → ℕ → List Row
+aimRows n wanted fixed ones = valueArgument wanted ∷ setArgument n fixed ∷ setArgument n ones ∷ onesArgument fixed ones ∷ []
+
+-- 7 for the rule, then for the pass rule, which is always named; "no such row is 15, tested last" (request 8)
+abbrev pub provokeRows : ℕ → List ℕ → List ℕ → ℕ → ℕ → ℕ → ℕ → ℕ → ℕ → List Row
+provokeRows n o c used m wanted p fixed ones =
+    flagCount n
+    ∷ orderPlaces n o
+    ∷ cells c
+    ∷ records n o c used
+    ∷ node used m
+    ∷ node used p
+    ∷ (aimRows n wanted fixed ones ++ (noSuchRow (servingIn n c m wanted p fixed ones) ∷ []))
+
 -- those of a call that makes no rule, with the bytes that it is lent
 abbrev pub queryRows : ℕ → List ℕ → List ℕ → ℕ → Query → List ℕ → List Row
 queryRows n o c used (tabulating m) bytes = tabulateRows n o c used m bytes
 queryRows n o c used (walking m pass row) bytes = walkRows n o c used m pass row
+queryRows n o c used (provoking m wanted p fixed ones) bytes = provokeRows n o c used m wanted p fixed ones
 
 -- "open tests neither 6 nor 7"
 abbrev pub openRows : ℕ → List ℕ → List ℕ → List Row

@@ -1,5 +1,6 @@
 -- The calls that make a rule, the tables that they make, and the records that a result needs; the calls that make none, and what they hand back (document 01,
--- "The store", "The book beside the store" and, of a root, "Tables, orders, nodes"; what a walk hands back: request 2, its pass rule: request 5).
+-- "The store", "The book beside the store" and, of a root, "Tables, orders, nodes"; what a walk hands back: request 2, its pass rule: request 5; provoke:
+-- request 8).
 -- Assumes nothing.
 use mathlib.Core.Bool.{true, false, not, cond}
 use mathlib.Core.List.{List, [], _∷_, map}
@@ -14,6 +15,7 @@ use Rattle.rule.specs.Level.{nodesOf}
 use Rattle.rule.specs.Order.{flags}
 use Rattle.rule.specs.Cells.{room}
 use Rattle.rule.specs.Walk.{walkValues, tableOf}
+use Rattle.rule.specs.Provoke.{servingIn}
 
 -- "the constant"
 abbrev pub constantTable : ℕ → ℕ → List ℕ
@@ -107,8 +109,11 @@ pub data Query : Type 0 where
   tabulating : (m : ℕ) → Query
   -- "or walk it for one row"; it "may be given a pass rule" (request 5)
   walking : (m : ℕ) (pass : Option ℕ) (row : ℕ) → Query
+  -- "names a rule, a wanted answer, a pass rule and some flags with fixed values, and wants a row to play" (request 8)
+  provoking : (m wanted p fixed ones : ℕ) → Query
 
--- the values that it hands back: "The flags a walk reports are the rule's own", whatever its pass rule
+-- the values that it hands back: "The flags a walk reports are the rule's own", whatever its pass rule; "the lowest row" that serves
 abbrev pub answered : ℕ → List ℕ → Query → List ℕ
 answered n c (tabulating m) = []
 answered n c (walking m pass row) = walkValues c m row
+answered n c (provoking m wanted p fixed ones) = getD (servingIn n c m wanted p fixed ones) 0 0 ∷ []

@@ -33,6 +33,12 @@ pub enum Said {
     Refused(u8),
 }
 
+// Provoke: the row.
+pub enum Sought {
+    Row(u16),
+    Refused(u8),
+}
+
 // Pack: the order, all 0 where it is refused, beside the node count and the root.
 pub struct Packed {
     pub order: Order,

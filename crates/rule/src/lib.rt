@@ -15,6 +15,7 @@ pub use answer::Packed;
 pub use answer::Printed;
 pub use answer::Read;
 pub use answer::Said;
+pub use answer::Sought;
 pub use answer::Written;
 pub use file::COUNT_SIZE;
 pub use file::FLAGS_BIT;

@@ -1,12 +1,13 @@
-// Open, and the calls that make no rule: tabulate and walk.
+// Open, and the calls that make no rule: tabulate, walk and provoke.
 use crate::state::Passed;
+use crate::state::Provoked;
 use crate::state::Store;
 use crate::state::Walked;
 use rule::Done;
 use rule::Node;
 use rule::Pass;
-ghost use Rattle.rule.specs.Answers.{doneReply, saidReply};
-ghost use Rattle.rule.specs.Calls.{Open, Tabulate, Walk};
+ghost use Rattle.rule.specs.Answers.{doneReply, saidReply, soughtReply};
+ghost use Rattle.rule.specs.Calls.{Open, Tabulate, Walk, Provoke};
 ghost use Rattle.rule.specs.Pass.{passOf};
 ghost use Rattle.store.specs.State.{stateOf};
 
@@ -48,6 +49,36 @@ impl Store {
     {
         let answer = walking::walk(self.n, self.order, cells, self.used, rule, pass, row);
         Walked {
+            store: self,
+            answer,
+        }
+    }
+
+    // Provoke: the lowest row that the pass rule allows, that has the fixed values and gives the wanted answer; or why there is none: 1, 4, 5, 6, 7 for the rule,
+    // 7 for the pass rule, 9, then 15.
+    pub fn provoke(
+        self,
+        cells: &[u16],
+        rule: Node,
+        wanted: u16,
+        pass: Node,
+        fixed: u16,
+        ones: u16,
+    ) -> Provoked
+        ensures { λ r. ⌜ Provoke (stateOf self) (now (cells .entry)) (rule .number) wanted (pass .number) fixed ones (soughtReply (r .answer)) (stateOf (r .store)) ⌝ }
+    {
+        let answer = provoking::provoke(
+            self.n,
+            self.order,
+            cells,
+            self.used,
+            rule,
+            wanted,
+            pass,
+            fixed,
+            ones,
+        );
+        Provoked {
             store: self,
             answer,
         }

@@ -2,6 +2,7 @@ use rule::Done;
 use rule::Made;
 use rule::Order;
 use rule::Said;
+use rule::Sought;
 
 // The number of flags, the order, and the number of records used.
 pub struct Store {
@@ -26,4 +27,10 @@ pub struct Stored {
 pub struct Walked {
     pub store: Store,
     pub answer: Said,
+}
+
+// Provoke: the state beside the row.
+pub struct Provoked {
+    pub store: Store,
+    pub answer: Sought,
 }

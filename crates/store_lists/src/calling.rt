@@ -98,20 +98,25 @@ fn kind(command: u8) -> u16 {
         b'x' => 5,
         b't' => 6,
         b'g' => 8,
+        b'p' => 9,
         _ => 7,
     }
 }
 
-// k V, f I, j CODE A B, c A B C, x A I V, t A BYTES, w A ROW, g A PASS ROW as the words of the call.
+// k V, f I, j CODE A B, c A B C, x A I V, t A BYTES, w A ROW, g A PASS ROW, p A WANTED PASS FIXED ONES as the words of the call.
 fn asked(s: Session, text: &[u8], command: u8) -> [u16; CALL] {
     let a = given(s, text, 2);
     let b = given(s, text, a.next);
     let c = given(s, text, b.next);
+    let d = given(s, text, c.next);
+    let e = given(s, text, d.next);
     let mut words = [0u16; CALL];
     words[0] = kind(command);
     words[1] = a.value;
     words[2] = b.value;
     words[3] = c.value;
+    words[4] = d.value;
+    words[5] = e.value;
     if command == b'j' {
         words[1] = byte(a.value) as u16;
     }
@@ -203,12 +208,27 @@ fn walk(s: Session, text: &[u8], cells: &mut [u16], command: u8) -> Session {
     s.counted(told.store, NONE, false)
 }
 
+// p A WANTED PASS FIXED ONES
+fn provoke(s: Session, text: &[u8], cells: &mut [u16]) -> Session {
+    let words = asked(s, text, b'p');
+    let told = told_alone(s, &words, cells);
+    let number = told.number;
+    if number == 0 {
+        let values = told.values;
+        print::number(b"row", values[0]);
+    } else {
+        print::number(b"refused", number);
+    }
+    s.counted(told.store, NONE, false)
+}
+
 // The call of a command, and its line of output but for the end.
 fn played(s: Session, text: &[u8], cells: &mut [u16], command: u8) -> Session {
     match command {
         b'o' => open(s, text, cells),
         b't' => tabulate(s, text, cells),
         b'w' | b'g' => walk(s, text, cells, command),
+        b'p' => provoke(s, text, cells),
         b'k' | b'f' | b'j' | b'c' | b'x' => make(s, text, cells, command),
         _ => {
             print::unknown();

@@ -20,15 +20,14 @@ use Rattle.theory.specs.Child.{child}
 use Rattle.theory.specs.Level.{levelOf}
 use Rattle.theory.proofs.Member.{In, head, tail}
 use Rattle.theory.proofs.Tests.{each-in, in-each}
-use Rattle.theory.proofs.Bits.{bit-lt, bit-same, bit-other, bits-eq, setBit-lt, setBit-own}
-use Rattle.theory.proofs.Cofactor.{cofactor-row}
+use Rattle.theory.proofs.Bits.{bit-lt, bit-same, bit-other, bits-eq, setBit-lt}
 use Rattle.theory.proofs.Sets.{Order}
 use Rattle.theory.proofs.Orders.{order-length, fit-order-is}
 use Rattle.theory.proofs.Levels.{level-lt, place-flag, place-level, place-before, place-next}
-use Rattle.theory.proofs.Walks.{node, walk-end, length-tabled, tabled-row, length-table, table-row}
+use Rattle.theory.proofs.Walks.{node, walk-end, length-tabled, tabled-row, table-row}
 use Rattle.theory.proofs.Canonical.{level-record}
 use Rattle.theory.proofs.Apply.{tabled-is}
-use Rattle.theory.proofs.Descents.{Comes, comes}
+use Rattle.theory.proofs.Descents.{Comes, comes, comes-row}
 use Rattle.tabulating.specs.Fill.{Filling, agree, filled}
 
 -- ---- rows that agree
@@ -138,11 +137,7 @@ module _ {n at row used m : ℕ} {order c bytes : List ℕ} (g : Filling n order
     -- a row of a half has the answer of the node that the half comes to
     answer : (b q : ℕ) → b < 2 → q < 2 ^ n → bit q (getD order at 0) ≡ b → walk c (child c (getD order at 0) b m) q ≡ walk c m q
     answer b q k l e =
-        sym (table-row n c (child c (getD order at 0) b m) q l)
-        ∙ ap (λ (t : List ℕ). getD t q 0) (sym (to b k .table))
-        ∙ cofactor-row (getD order at 0) b (tableOf n c m) q (omega (arith, length-table n c m))
-        ∙ ap (λ (x : ℕ). getD (tableOf n c m) x 0) (ap (setBit q (getD order at 0)) (sym e) ∙ setBit-own q (getD order at 0))
-        ∙ table-row n c m q l
+        sym (table-row n c (child c (getD order at 0) b m) q l) ∙ comes-row (g .is-sound) ord (to b k) q l e ∙ table-row n c m q l
 
     in-half : (b q : ℕ) → b < 2 → agree (take (at + 1) (flags n order)) (setBit row (getD order at 0) b) q
         ≡ (agree (take at (flags n order)) row q && eqb (bit q (getD order at 0)) b)

@@ -5,6 +5,7 @@ use mathlib.Core.Logic.{_≢_, inl, inr}
 use mathlib.Core.List.{List, [], _∷_, _++_, map, map-append}
 use Prim.Native.Nat.{ℕ, zero, suc, _+_, _*_, _/_, _%_, _^_, _≤_, _<_, suc-le-suc}
 use native.Mathlib.Nat.{add-zero, zero-add, le-of-suc-le-suc, not-suc-le-zero, eq-or-lt-of-le, div-one, div-div-eq-div-mul, pow-succ'}
+use native.Mathlib.Decide.{ℕ-discrete}
 use native.Mathlib.Omega.{arith}
 use lib.ListN.{length, getD, length-map}
 use Rattle.rule.specs.Bits.{bit, setBit, from, below}
@@ -89,6 +90,27 @@ unfolding bit
 bits-eq zero r s h k e = omega arith
 bits-eq (suc n) r s h k e =
     omega (arith, e 0 (omega arith), bits-eq n (r / 2) (s / 2) (omega arith) (omega arith) (λ i l. e (suc i) (suc-le-suc l)))
+
+lt-pow : (k : ℕ) → k < 2 ^ k
+lt-pow zero = omega arith
+lt-pow (suc k) = omega (arith, lt-pow k)
+
+-- a number that has no bit from n on is below 2 ^ n
+pub bits-below : (n r : ℕ) → ((i : ℕ) → bit r i ≡ 1 → i < n) → r < 2 ^ n
+unfolding bit
+bits-below zero r f =
+    let e : r ≡ 0 = bits-eq r r 0 (lt-pow r) (omega (arith, lt-pow r)) (λ i h. none i (f i) ∙ sym (bit-zero i)) in
+    omega arith
+  where
+    none : (i : ℕ) → (bit r i ≡ 1 → i < 0) → bit r i ≡ 0
+    none i g = elim (ℕ-discrete (bit r i) 1) [ yes e ↦ absurd (not-suc-le-zero (g e)) | no d ↦ omega (arith, d, bit-lt r i) ]
+bits-below (suc n) r f = omega (arith, bits-below n (r / 2) (λ i e. le-of-suc-le-suc (f (suc i) e)))
+
+-- a number whose bits are all in another is no larger
+pub bits-le : (n r s : ℕ) → r < 2 ^ n → ((i : ℕ) → i < n → bit r i ≤ bit s i) → r ≤ s
+unfolding bit
+bits-le zero r s h e = omega arith
+bits-le (suc n) r s h e = omega (arith, e 0 (omega arith), bits-le n (r / 2) (s / 2) (omega arith) (λ i l. e (suc i) (suc-le-suc l)))
 
 -- ---- a bit that is set
 

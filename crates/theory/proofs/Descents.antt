@@ -4,24 +4,27 @@ use mathlib.Core.Path.{_≡_, refl, sym, ap, ap₂, _∙_}
 use mathlib.Core.Logic.{_⊎_, inl, inr}
 use mathlib.Core.Bool.{true, cond}
 use mathlib.Core.List.{List, [], _∷_, _++_, map, map-append, List·Memᴰ as In, List·Memᴰ·head as head, List·Memᴰ·append-cases as append-cases, List·Memᴰ·eq-of-singleton as eq-of-singleton, Memᴰ·append-left as append-left, Memᴰ·append-right as append-right}
-use Prim.Native.Nat.{ℕ, zero, suc, _+_, _-_, _≤_, _<_}
+use Prim.Native.Nat.{ℕ, zero, suc, _+_, _-_, _^_, _≤_, _<_}
 use native.Mathlib.Nat.{eq-or-lt-of-le}
 use native.Mathlib.Decide.{ℕ-discrete}
 use native.Mathlib.Omega.{arith}
 use borrow.Author.Tests.{lt-ltb, le-ltb, eq-eqb, ne-eqb}
 use lib.Dec.{eqb}
-use lib.ListN.{length}
+use lib.ListN.{length, getD}
+use Rattle.rule.specs.Bits.{bit, setBit}
 use Rattle.rule.specs.Table.{cofactor, fixings}
 use Rattle.rule.specs.Order.{flags, level}
 use Rattle.rule.specs.Cells.{flagAt}
 use Rattle.rule.specs.Walk.{tableOf}
 use Rattle.rule.specs.Diagram.{reach}
+use Rattle.theory.proofs.Bits.{setBit-own}
+use Rattle.theory.proofs.Cofactor.{cofactor-row}
 use Rattle.theory.proofs.Sets.{Order}
 use Rattle.theory.specs.Child.{childAt, child}
 use Rattle.theory.specs.Level.{levelOf}
 use Rattle.theory.specs.Shape.{Shaped}
 use Rattle.theory.proofs.Levels.{Turn, level-lt, level-one}
-use Rattle.theory.proofs.Walks.{node, smaller}
+use Rattle.theory.proofs.Walks.{node, smaller, length-table}
 use Rattle.theory.proofs.Reach.{reach-self, reach-split, reach-from, reach-cases, reach-trans}
 use Rattle.theory.proofs.Canonical.{level-end, level-record, child-later, child-le, ignores, record-child}
 
@@ -98,6 +101,13 @@ module _ {n used : ℕ} {order c : List ℕ} (s : Shaped n order c used) (o : Or
               reached = reach-from (smaller s) k b (childAt c k b) u (reach-self c (childAt c k b));
             })
       ]
+
+  -- a row in which v is b has the answer of the node that it comes to
+  pub comes-row : {v b m p : ℕ} → Comes v b m p → (q : ℕ) → q < 2 ^ n → bit q v ≡ b → getD (tableOf n c p) q 0 ≡ getD (tableOf n c m) q 0
+  comes-row {v} {b} {m} to q l e =
+      ap (λ (t : List ℕ). getD t q 0) (sym (to .table))
+      ∙ cofactor-row v b (tableOf n c m) q (omega (arith, length-table n c m))
+      ∙ ap (λ (x : ℕ). getD (tableOf n c m) x 0) (ap (setBit q v) (sym e) ∙ setBit-own q v)
 
   -- ---- all flags of a list are fixed
 

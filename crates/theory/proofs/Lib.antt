@@ -10,6 +10,7 @@ pub mod Cofactor
 pub mod Friedman
 pub mod FlagSet
 pub mod Scan
+pub mod Fixed
 pub mod Sums
 pub mod Restrict
 pub mod Rows
@@ -43,6 +44,7 @@ pub mod Renumbered
 pub mod Needed
 pub mod Growth
 pub mod Apply
+pub mod Serving
 pub mod Refused
 pub mod Pass
 pub mod Reading

@@ -3,10 +3,10 @@
 use mathlib.Core.Path.{_≡_, refl, sym, ap, _∙_}
 use mathlib.Core.Bool.{Bool, true, false, not, _&&_, true≢false}
 use mathlib.Core.List.{List, [], _∷_, _++_, map}
-use Prim.Native.Nat.{ℕ, zero, suc}
+use Prim.Native.Nat.{ℕ, zero, suc, _≤_}
 use native.Mathlib.Omega.{arith}
-use borrow.Author.Tests.{ltb-true, eq-eqb}
-use lib.Dec.{eqb, ltb}
+use borrow.Author.Tests.{ltb-true, leb-true, eq-eqb}
+use lib.Dec.{eqb, leb, ltb}
 use lib.ListN.{length, drop}
 use Rattle.rule.specs.Refusals.{Row, firstElse, refusal}
 use Rattle.rule.specs.Reply.{Reply, accepted, refused, reply, leaves, WritesRun}
@@ -59,6 +59,16 @@ split-passed ((false, k) ∷ rows) more h e = split-passed rows more (and-split 
 pub rows-alike : (rows more other : List Row) → refusal more ≡ refusal other → refusal (rows ++ more) ≡ refusal (rows ++ other)
 rows-alike [] more other e = e
 rows-alike (row ∷ rows) more other e = ap (firstElse (row .0) (row .1)) (rows-alike rows more other e)
+
+-- the numbers of these rows are at most so much, and so is the one that they give
+abbrev pub upTo : ℕ → List Row → Bool
+upTo most [] = true
+upTo most (row ∷ rows) = leb (row .1) most && upTo most rows
+
+pub refusal-le : (most : ℕ) (rows : List Row) → upTo most rows ≡ true → refusal rows ≤ most
+refusal-le most [] h = omega arith
+refusal-le most ((true, k) ∷ rows) h = leb-true k most (and-split (leb k most) (upTo most rows) h .0)
+refusal-le most ((false, k) ∷ rows) h = refusal-le most rows (and-split (leb k most) (upTo most rows) h .1)
 
 -- no row has this number
 abbrev pub others : ℕ → List Row → Bool

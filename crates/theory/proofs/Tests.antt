@@ -4,12 +4,13 @@ use mathlib.Core.Path.{_≡_, refl, sym, ap, ap₂, _∙_}
 use mathlib.Core.Logic.{_⊎_, inl, inr}
 use mathlib.Core.Bool.{Bool, true, false, cond, _&&_, true≢false, false≢true, _||_}
 use mathlib.Core.List.{List, [], _∷_, _++_}
-use Prim.Native.Nat.{ℕ, zero, suc, _≤_, _<_, suc-le-suc}
+use Prim.Native.Nat.{ℕ, zero, suc, _+_, _≤_, _<_, suc-le-suc}
+use native.Mathlib.Nat.{eq-or-lt-of-le}
 use native.Mathlib.Omega.{arith}
 use borrow.Author.Tests.{eqb-true, eq-eqb}
 use lib.Dec.{eqb}
 use lib.ListN.{length, getD}
-use Rattle.rule.specs.Bits.{below}
+use Rattle.rule.specs.Bits.{from, below}
 use Rattle.rule.specs.Tests.{each, addIf, keep, same, among}
 use Rattle.theory.proofs.Member.{In, head, tail, not-nil, cases-cons}
 use Rattle.theory.proofs.Bits.{length-from, below-in, in-below}
@@ -150,6 +151,26 @@ pub keep-same : {A : Type 0} (p q : A → Bool) (xs : List A) → ((x : A) → I
 unfolding keep
 keep-same {A} p q [] f = refl
 keep-same {A} p q (x ∷ xs) f = ap₂ (λ (b : Bool) (l : List A). addIf b x l) (f x (head refl)) (keep-same p q xs (λ y m. f y (tail m)))
+
+-- of numbers that rise, x passes, and none that passes is lower
+abbrev pub Least : (ℕ → Bool) → ℕ → ℕ → ℕ → Type 0
+Least p a k x = (a ≤ x) × (x < a + k) × (p x ≡ true) × ((y : ℕ) → a ≤ y → y < a + k → p y ≡ true → x ≤ y)
+
+-- so it is of the first that is kept
+pub kept-first : (p : ℕ → Bool) (a k x : ℕ) (xs : List ℕ) → keep p (from a k) ≡ x ∷ xs → Least p a k x
+unfolding keep from
+kept-first p a zero x xs e = let z : _≡_ {A = ℕ} 0 1 = cc in absurd (omega arith)
+kept-first p a (suc k) x xs e = go (p a) refl e (kept-first p (suc a) k x xs)
+  where
+    go : (b : Bool) → p a ≡ b → addIf b a (keep p (from (suc a) k)) ≡ x ∷ xs → (keep p (from (suc a) k) ≡ x ∷ xs → Least p (suc a) k x) → Least p a (suc k) x
+    go true q e ih = let f : a ≡ x = cc in (omega arith, omega arith, ap p (sym f) ∙ q, λ y l h s. omega arith)
+    go false q e ih =
+        let (l, h, s, f) = ih e in (
+          omega arith,
+          omega arith,
+          s,
+          λ y m u t. elim (eq-or-lt-of-le m) [ inl z ↦ absurd (false≢true (sym q ∙ ap p z ∙ t)) | inr z ↦ f y z (omega arith) t ],
+        )
 
 -- no more pass than there are
 pub below-keep : (p : ℕ → Bool) (k : ℕ) → length (keep p (below k)) ≤ k

@@ -11,6 +11,9 @@ returns c = rw (c .before .before .before .before .before .before .query .given 
 returns-2 : tie.Need-returns-2
 returns-2 c = rw (c .before .before .before .query2 .given .1, c .said .ensures .1, c .said .ensures .0) (record { met = c .before .walk .ensures; kind = refl; behind = refl })
 
+returns-3 : tie.Need-returns-3
+returns-3 c = rw (c .before .before .before .query3 .given .1, c .sought .ensures .1, c .sought .ensures .0) (record { met = c .before .provoke .ensures; kind = refl; behind = refl })
+
 pub ask-spec : {M : Type 1} → statement M
 ask-spec =
     tie.close
@@ -22,5 +25,9 @@ ask-spec =
     (λ c κs. search needs)
     (λ c κs. search needs)
     (λ c. search needs)
+    (λ c κs. search needs)
+    (λ c κs. search needs)
+    (λ c. search needs)
     returns
-    returns-2)
+    returns-2
+    returns-3)
