@@ -29,8 +29,8 @@ fn both_ends(rule: u16, pass: u16) -> bool
 }
 
 // The lowest row that the pass rule's node allows, that has this row's values of the fixed flags and for which the rule's node gives the wanted answer. This row
-// is the lowest that has the values, so where both nodes are end nodes it is this one or none. A free flag is tried with 0, then with 1,
-// unless the row found with 0 is below every row with 1. It need not be: a flag asked later may have a higher number.
+// is the lowest that has the values, so where both nodes are end nodes it is this one or none. A free flag is tried with 0, then with 1, unless the row found
+// with 0 is below every row with 1. It need not be: a flag asked later may have a higher number.
 pub fn lowest(
     n: u8,
     order: Order,
