@@ -1,5 +1,5 @@
 // The calls on single diagrams: those of the older commit beside this one's, walk and tabulate beside the same in plain C, read of records in sequence beside
-// others, and provoke beside tabulate.
+// others, provoke beside tabulate, and replay beside walks in plain C.
 #include "drawing.h"
 #include "engine.h"
 #include "older/older.h"
@@ -100,6 +100,21 @@ static uint64_t tabulate_pair(int i)
 {
     return engine_tabulate(FLAGS, rising_order, pairs[i].cells, CELLS, pairs[i].used, rules[i], bytes, ROWS);
 }
+
+// A log as long as one may be, of random rows, and how often each flag was asked.
+enum { SNAPSHOTS = 32767, LOGS = 20 };
+static uint8_t log_bytes[2 * SNAPSHOTS];
+static uint16_t asked[10];
+
+static uint64_t engine_log(int i)
+{
+    struct store *of = &diagrams[i];
+    return engine_replay(FLAGS, rising_order, of->cells, WIDTH * of->used, of->used, roots[i], log_bytes, sizeof log_bytes, asked);
+}
+
+static uint64_t c_log_walks(int i) { return plain_log_walks(diagrams[i].cells, roots[i], log_bytes, sizeof log_bytes); }
+
+static uint64_t c_log(int i) { return plain_replay(diagrams[i].cells, roots[i], log_bytes, sizeof log_bytes, asked); }
 
 static void must(int holds, const char *what)
 {
@@ -224,6 +239,24 @@ static void make_pairs(void)
     printf("%d provokes answer as a scan of the tables, %d find a row\n", tried, found);
 }
 
+// A random log, which tallies in plain C as in the engine, through every diagram.
+static void make_log(void)
+{
+    for (int i = 0; i < SNAPSHOTS; i++) {
+        unsigned row = random_below(ROWS);
+        log_bytes[2 * i] = row % 256;
+        log_bytes[2 * i + 1] = row / 256;
+    }
+    for (int i = 0; i < TABLES; i++) {
+        uint16_t counts[10];
+        memset(asked, 7, sizeof asked);
+        uint64_t answer = engine_log(i);
+        memcpy(counts, asked, sizeof counts);
+        must(refusal(answer) == 0 && answer == c_log(i) && memcmp(counts, asked, sizeof counts) == 0, "the tallies differ");
+    }
+    printf("a log of %d snapshots tallies alike through %d diagrams\n", SNAPSHOTS, TABLES);
+}
+
 // All three walks answer alike, of stores with one cell changed; this one's and that in plain C with the same flags asked, and alike under pass rules.
 static void compare(void)
 {
@@ -261,6 +294,7 @@ static const struct way provokes[3] = {{"tabulate", tabulate_pair, 0}, {"no row"
 static const struct way plain_walks[2] = {{"engine", new_walk, 0}, {"plain C", c_walk, 0}};
 static const struct way passed_walks[2] = {{"engine", new_walk_under, 0}, {"plain C", c_walk_under, 0}};
 static const struct way plain_tabulates[2] = {{"engine", new_tabulate, 0}, {"plain C", c_tabulate, 0}};
+static const struct way replays[3] = {{"engine", engine_log, 0}, {"walks in C", c_log_walks, 0}, {"with tally", c_log, 0}};
 
 // Walks of stores with 64, 256 and 1,024 records, in turn or always the first; and how the time grows.
 static void measure_walks(const struct way *ways, int in_turn, int rounds)
@@ -277,7 +311,7 @@ static void measure_walks(const struct way *ways, int in_turn, int rounds)
     }
     printf("%-46s", "  1,024 records to 256");
     for (int w = 0; w < 2; w++)
-        printf("%14.2f%8.2f", took[2][w].least / took[1][w].least, took[2][w].median / took[1][w].median);
+        printf("%12.2f%10.2f", took[2][w].least / took[1][w].least, took[2][w].median / took[1][w].median);
     printf("\n");
 }
 
@@ -288,6 +322,16 @@ static void measure_diagrams(const char *what, const struct way *ways)
     print_line(what, took, 2);
 }
 
+// A log by the engine, as many walks in plain C, and these with a tally; and how the first compares with the second.
+static void measure_replays(void)
+{
+    struct took took[3];
+    print_head(replays, 3);
+    measure(replays, 3, LOGS, 30, took);
+    print_line("replay of 32,767 snapshots", took, 3);
+    printf("%-46s%12.2f%10.2f\n", "  engine to walks in C", took[0].least / took[1].least, took[0].median / took[1].median);
+}
+
 int main(void)
 {
     struct took took[2];
@@ -296,6 +340,7 @@ int main(void)
     make_diagrams();
     make_files();
     make_pairs();
+    make_log();
 
     print_head(walks, 2);
     measure_walks(walks, 1, 30);
@@ -323,5 +368,7 @@ int main(void)
     print_head(provokes, 3);
     measure(provokes, 3, TABLES, 60, provoked);
     print_line("provoke, all flags free", provoked, 3);
+
+    measure_replays();
     return 0;
 }

@@ -29,6 +29,10 @@ uint64_t engine_pack(uint8_t n, const uint8_t *table, size_t rows, uint8_t *orde
 // Read: n, the record count and the root; the order as pack's.
 uint64_t engine_read(const uint8_t *file, size_t bytes, uint8_t *order, uint16_t *cells, size_t length);
 
+// Replay without a pass rule: snapshots played, yes answers and changes; how often each flag was asked goes into ten lent cells.
+uint64_t engine_replay(uint8_t n, const uint8_t *order, const uint16_t *cells, size_t length, uint16_t used, uint16_t node, const uint8_t *log,
+                       size_t bytes, uint16_t *asked);
+
 // The parts of an answer.
 static inline unsigned refusal(uint64_t answer) { return answer & 0xff; }
 static inline unsigned first_value(uint64_t answer) { return answer >> 8 & 0xffff; }

@@ -71,7 +71,7 @@ void print_head(const struct way *ways, int count)
 {
     printf("\n%-46s", "microseconds a call");
     for (int w = 0; w < count; w++)
-        printf("%14s  median", ways[w].name);
+        printf("%12s    median", ways[w].name);
     if (count == 2)
         printf("   ratio");
     printf("\n");
@@ -81,7 +81,7 @@ void print_line(const char *what, const struct took *took, int count)
 {
     printf("%-46s", what);
     for (int w = 0; w < count; w++)
-        printf("%14.3f%8.3f", took[w].least / 1000, took[w].median / 1000);
+        printf("%12.3f%10.3f", took[w].least / 1000, took[w].median / 1000);
     if (count == 2)
         printf("%8.2f", took[0].least / took[1].least);
     printf("\n");

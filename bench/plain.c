@@ -87,13 +87,14 @@ static unsigned unfit(unsigned n, const uint8_t *order, const uint16_t *cells, s
     return 0;
 }
 
-// The walk from node m: its answer, the set of the flags asked, and their number.
+// The walk from node m: its answer, the set of the flags asked, and their number. The child is taken by its place, as no processor foresees the branches of
+// random rows.
 static uint64_t descend(const uint16_t *cells, unsigned m, unsigned row)
 {
     unsigned asked = 0, count = 0;
     while (m >= 2) {
         const uint16_t *record = cells + WIDTH * (m - 2);
-        m = row >> record[0] & 1 ? record[2] : record[1];
+        m = record[1 + (row >> record[0] & 1)];
         asked |= 1u << record[0];
         count++;
     }
@@ -150,4 +151,30 @@ uint64_t plain_tabulate(uint8_t n, const uint8_t *order, const uint16_t *cells, 
         return 7;
     fill(n, order, 0, 0, cells, node, bytes);
     return 0;
+}
+
+static unsigned snapshot(const uint8_t *log, size_t at) { return log[at] | log[at + 1] << 8; }
+
+uint64_t plain_log_walks(const uint16_t *cells, uint16_t node, const uint8_t *log, size_t bytes)
+{
+    uint64_t sum = 0;
+    for (size_t at = 0; at < bytes; at += 2)
+        sum += descend(cells, node, snapshot(log, at));
+    return sum;
+}
+
+uint64_t plain_replay(const uint16_t *cells, uint16_t node, const uint8_t *log, size_t bytes, uint16_t *asked)
+{
+    unsigned yes = 0, changes = 0, last = 0;
+    memset(asked, 0, MOST_FLAGS * sizeof *asked);
+    for (size_t at = 0; at < bytes; at += 2) {
+        uint64_t walked = descend(cells, node, snapshot(log, at));
+        unsigned answer = walked >> 8 & 0xffff, flags = walked >> 24 & 0xffff;
+        yes += answer;
+        changes += at > 0 && answer != last;
+        last = answer;
+        for (unsigned flag = 0; flag < MOST_FLAGS; flag++)
+            asked[flag] += flags >> flag & 1;
+    }
+    return (uint64_t)(bytes / 2) << 8 | (uint64_t)yes << 24 | (uint64_t)changes << 40;
 }

@@ -3,16 +3,20 @@
 use crate::{all_tables, digits, draw_packed, each_once, numbers, or_refused, phrase, recast};
 use crate::{refuse, shorter_tables, table_from, tables_with_form, Dice, Drawing};
 
-/// "It reads standard input up to the first byte 0A, or to the end"; each byte is a row.
-pub fn list(input: &[u8]) -> Result<String, usize> {
-    let line = input.split(|&byte| byte == b'\n').next().unwrap_or(input);
+/// The table of a line of up to ten flags; each byte is a row.
+pub fn table_of(line: &[u8]) -> Result<Vec<usize>, usize> {
     refuse(&[
         (1, line.len() > 1024),
         (2, !line.len().is_power_of_two()),
         (3, line.iter().any(|byte| !b"01".contains(byte))),
-        (8, line.len() > 256), // nine or ten flags
     ])?;
-    let table: Vec<usize> = line.iter().map(|byte| usize::from(byte - b'0')).collect();
+    Ok(line.iter().map(|byte| usize::from(byte - b'0')).collect())
+}
+
+/// "It reads standard input up to the first byte 0A, or to the end".
+pub fn list(input: &[u8]) -> Result<String, usize> {
+    let table = table_of(input.split(|&byte| byte == b'\n').next().unwrap_or(input))?;
+    refuse(&[(8, table.len() > 256)])?; // nine or ten flags
     let Drawing { order, nodes, flags, .. } = draw_packed(&table);
     let head = format!("flags {}\nnodes {nodes}\n{}\n", flags.len(), phrase("order", &order));
     let each = flags.iter().enumerate().map(|(flag, count)| format!("flag {flag} {count}\n"));
@@ -45,12 +49,12 @@ pub fn tables() -> Vec<Vec<usize>> {
 }
 
 /// A line of so many characters.
-fn line(length: usize) -> Vec<u8> {
+pub fn line(length: usize) -> Vec<u8> {
     b"0110".iter().copied().cycle().take(length).collect()
 }
 
 /// The same with another byte at a place.
-fn with(length: usize, place: usize, byte: u8) -> Vec<u8> {
+pub fn with(length: usize, place: usize, byte: u8) -> Vec<u8> {
     let mut line = line(length);
     line[place] = byte;
     line

@@ -1,10 +1,10 @@
 //! The lists of store calls that are written as vectors: each refusal at its edge, stores that are
 //! filled to the last record, all rows of rules under pass rules, rows provoked with flags fixed in
-//! all ways, and random lists.
+//! all ways, logs replayed, and random lists.
 
 use crate::play::play;
-use crate::scribe::{kinds, Kind, Scribe, CALLS};
-use crate::{Dice, CELLS, WIDTH};
+use crate::scribe::{kinds, Kind, Scribe};
+use crate::{replays, Dice, CELLS, WIDTH};
 use std::collections::{BTreeMap, BTreeSet};
 
 /// The test programs read by way of a buffer of so many bytes: with more input it is filled again.
@@ -22,6 +22,8 @@ const TESTED: &[(char, &[usize])] = &[
     ('w', &[1, 4, 5, 6, 7, 9]),
     ('g', &[1, 4, 5, 6, 7, 9, 14]),
     ('p', &[1, 4, 5, 6, 7, 9, 15]),
+    ('r', &[1, 4, 5, 6, 7, 9, 16]),
+    ('q', &[1, 4, 5, 6, 7, 9, 14, 16]),
 ];
 
 /// States given to open: n, the order and the used number, at the edges of what is fit.
@@ -110,19 +112,20 @@ const LENGTHS: &str =
     "o 2 10 0;f 0;t @1 4;o 3 012 7;f 2;t @4 8;t @4 4;o 1 0 0;t 1 2;t 0 8;o 0 - 1;t 1 1;o 4 3210 0;f 3;t @13 16";
 
 /// Ten flags, joined from the one asked last upwards by AND and OR in turn: for row 316 a walk asks
-/// all of them, for a row that differs from it in one flag those up to that flag. Then a rule that
-/// asks one flag has a pass rule that asks many, and the other way round. The last open leaves no
-/// tables to be told.
-const WALKED: &str = "o 10 3140592687 0;f 7;f 8;j 1 @2 @1;f 6;j 7 @4 @3;f 2;j 1 @6 @5;f 9;\
-    j 7 @8 @7;f 5;j 1 @10 @9;f 0;j 7 @12 @11;f 4;j 1 @14 @13;f 1;j 7 @16 @15;f 3;j 1 @18 @17;\
-    w @19 308;w @19 318;w @19 300;w @19 317;w @19 284;w @19 828;w @19 312;w @19 380;w @19 60;\
-    w @19 444;w @19 316;g @19 @17 308;g @19 @17 436;g @17 @19 444;g @1 @19 444;g @19 @18 316;\
-    g @19 @1 316;g @19 @19 444;g @19 @19 316;o 0 - 0";
+/// all of them, for a row that differs from it in one flag those up to that flag.
+pub const JOINED: &str = "o 10 3140592687 0;f 7;f 8;j 1 @2 @1;f 6;j 7 @4 @3;f 2;j 1 @6 @5;f 9;\
+    j 7 @8 @7;f 5;j 1 @10 @9;f 0;j 7 @12 @11;f 4;j 1 @14 @13;f 1;j 7 @16 @15;f 3;j 1 @18 @17";
+
+/// Walks of these rules; then a rule that asks one flag has a pass rule that asks many, and the
+/// other way round. The last open leaves no tables to be told.
+const WALKED: &str = "w @19 308;w @19 318;w @19 300;w @19 317;w @19 284;w @19 828;w @19 312;\
+    w @19 380;w @19 60;w @19 444;w @19 316;g @19 @17 308;g @19 @17 436;g @17 @19 444;\
+    g @1 @19 444;g @19 @18 316;g @19 @1 316;g @19 @19 444;g @19 @19 316;o 0 - 0";
 
 /// Stores by n and their order, calls that make rules in them, open being call 0, and pairs of a
 /// rule and its pass rule. The first pass rule says that flags 0 and 1 are never both set; `@6` in
 /// the second store is a node within other rules.
-const PASSED: &[(usize, &str, &str, &str)] = &[
+pub const PASSED: &[(usize, &str, &str, &str)] = &[
     (
         4,
         "2013",
@@ -136,7 +139,7 @@ const PASSED: &[(usize, &str, &str, &str)] = &[
 
 /// The same, for rows that are provoked with flags fixed in all ways; of four flags, the settled
 /// 0001000100011111 in two orders, at most one is fixed.
-const PROVOKED: &[(usize, &str, &str, &str)] = &[
+pub const PROVOKED: &[(usize, &str, &str, &str)] = &[
     (2, "01", "f 0;f 1;j 6 @1 @2;j 7 @1 @2", "@3 @4;@4 @3"),
     (2, "10", "f 0;f 1;j 2 @1 @2;j 14 @1 @2", "@3 1;@4 @4"),
     (3, "120", "f 0;f 1;f 2;c @1 @2 @3;j 11 @3 @1", "@4 @5;@5 @4"),
@@ -184,8 +187,9 @@ fn opens(dice: &mut Dice, cells: usize, states: &[&str]) -> Vec<String> {
     list.end()
 }
 
-/// All calls while the last open is not an accepted one, fit and unfit throughout; tabulate, the
-/// walk under a pass rule and provoke also with one unfit argument; then what a fit open alters.
+/// The calls but replay (those are in replays.rs) while the last open is not an accepted one, fit
+/// and unfit throughout; tabulate, the walk under a pass rule and provoke also with one unfit
+/// argument; then what a fit open alters.
 fn unopened(dice: &mut Dice, cells: usize, states: &[&str]) -> Vec<String> {
     let mut list = Scribe::new(dice, cells);
     for state in states {
@@ -194,7 +198,7 @@ fn unopened(dice: &mut Dice, cells: usize, states: &[&str]) -> Vec<String> {
             list.say_fit("ffj");
         }
     }
-    for &(letter, _) in CALLS {
+    for letter in "kfjcxtwgp".chars() {
         list.say_fit(&letter.to_string());
         list.say_unfit(letter, |_| true);
     }
@@ -304,7 +308,7 @@ fn random_steps(dice: &mut Dice, n: usize) -> Vec<String> {
 }
 
 /// A list that begins with these calls, in so many cells.
-fn played(
+pub fn played(
     dice: &mut Dice,
     cells: usize,
     calls: impl IntoIterator<Item = impl AsRef<str>>,
@@ -458,6 +462,8 @@ fn step(list: &mut Scribe) {
     } else if is_open && list.dice.one_in(5) {
         let wanted = !list.dice.one_in(4);
         list.say_fix(wanted);
+    } else if list.dice.one_in(120) {
+        list.say_any("rq");
     } else {
         list.say_any("kfjjjjjcccxtwwgggp");
     }
@@ -524,7 +530,8 @@ fn lists(dice: &mut Dice) -> Vec<Vec<String>> {
     lists.extend([0x0B5E_55ED_CAFE_0002, 0x0B5E_55ED_CAFE_0003].map(|seed| large(&mut Dice(seed))));
     lists.extend((0..220).map(|_| random(dice)));
     lists.push(said(dice, 10, LENGTHS));
-    lists.push(said(dice, 19, WALKED));
+    lists.push(said(dice, 19, &format!("{JOINED};{WALKED}")));
+    lists.extend(replays::lists(dice));
     lists
 }
 

@@ -12,6 +12,11 @@
 //!     g A PASS ROW      walk under a pass rule
 //!     p A WANTED PASS FIXED ONES
 //!                       provoke under a pass rule; of the fixed flags those in ONES are 1
+//!     r A ODD ROW TIMES ROW TIMES ..
+//!                       replay a log: so many snapshots of each row, and where ODD is 1 one
+//!                       further byte, a 7
+//!     q A PASS ODD ROW TIMES ROW TIMES ..
+//!                       replay a log under a pass rule
 //!     end               ends the list
 //!
 //! Each call is given the cells and state as the last one left them, open its own state. An order
@@ -21,12 +26,14 @@
 //! A set of flags is a number, here and in print, bit v for flag v.
 //!
 //! What is printed, U being the used number of the state handed back, SET the flags asked, and
-//! COUNT how many they are:
+//! COUNT how many they are; P snapshots of a log were played, Y answered yes, C changed the answer,
+//! and flag v was asked Av times:
 //!
 //!     open           open accepted used U                      open refused K used U
 //!     tabulate       table DIGITS used U                       refused K bytes kept used U
 //!     walk           answer A asked SET number COUNT used U    refused K used U
 //!     provoke        row R used U                              refused K used U
+//!     replay         tally P Y C A0 A1 .. A9 used U            refused K used U
 //!     any other call rule NODE used U                          refused K used U
 //!     end            end used U
 //!
@@ -41,8 +48,9 @@
 //! that its call adds, children having smaller numbers than their parents.
 
 use crate::book::Book;
+use crate::log::{self, log_of, snapshots, Walked};
 use crate::store::{flags_in, make, row_count, Ask, Rule, State, Store};
-use crate::{collapse, digits, flags_asked, refuse, set_and_number};
+use crate::{collapse, digits, flags_asked, phrase, refuse, set_and_number};
 
 /// A node as the paper fixes it: by its number, or by the call that handed it back first.
 #[derive(Clone, Copy, Debug, Eq, Hash, PartialEq)]
@@ -89,6 +97,8 @@ fn read(line: &str) -> (Ask, Vec<Given>) {
             let ask = Ask::Provoke(number(wanted), number(fixed), number(ones));
             (ask, vec![given(a), given(pass)])
         }
+        ["r", a, ref log @ ..] => (Ask::Replay(log_of(log)), vec![given(a)]),
+        ["q", a, pass, ref log @ ..] => (Ask::Replay(log_of(log)), vec![given(a), given(pass)]),
         _ => panic!("no call: {line}"),
     }
 }
@@ -256,6 +266,26 @@ impl Session {
         Ok(format!("row {row}"))
     }
 
+    /// What a walk tells of a row that can happen.
+    fn told(&self, rule: Name, pass: Option<&Name>, row: usize) -> Walked {
+        let walked = self.walk(rule, pass, row).expect("a row that can happen");
+        let words: Vec<&str> = walked.split(' ').collect();
+        (number(words[1]), flags_in(number(words[3])).into_iter().collect())
+    }
+
+    /// The tally of a log. "Each number equals that of a plain pass over the log using the rule's
+    /// table and the walk's flags": those of the collapsed tree, and beside it what walks tell.
+    fn replay(&self, rule: Name, pass: Option<&Name>, log: &[u8]) -> Result<String, usize> {
+        let (table, rows) = (self.table(rule), snapshots(log));
+        let allowed = pass.map(|&pass| self.table(pass));
+        log::test(&rows, table.len(), allowed.as_deref())?;
+        let State { n, order, .. } = &self.store.state;
+        let diagram = collapse(&table, &order[..*n]);
+        let tally = log::tally(&rows, |row| (table[row], diagram.walk(row).1));
+        assert_eq!(tally, log::updated(&rows, |row| self.told(rule, pass, row)), "by walks");
+        Ok(phrase("tally", &tally))
+    }
+
     fn answer(&mut self, ask: &Ask, nodes: &[Given]) -> Result<String, usize> {
         if let Ask::Open(given) = ask {
             return self.open(given);
@@ -269,6 +299,7 @@ impl Session {
             Ask::Provoke(wanted, fixed, ones) => {
                 self.provoke(arguments[0], arguments[1], [wanted, fixed, ones])
             }
+            Ask::Replay(ref log) => self.replay(arguments[0], arguments.get(1), log),
             _ => self.hand_back(ask, &arguments),
         }
     }

@@ -1,13 +1,14 @@
 //! Writes lists of store calls, playing each while it is written: so it knows which nodes may
 //! stand among the arguments, and where each argument's edges are.
 
+use crate::log::words_of;
 use crate::play::Session;
 use crate::store::{depends, row_count};
 use crate::{digits, Dice};
 use Kind::*;
 
 /// What an argument is. `Sets` has two words, the flags that are fixed and those of them that are
-/// 1, and stands last.
+/// 1, and `Log` those of its runs; they stand last.
 #[derive(Clone, Copy)]
 pub enum Kind {
     Node,
@@ -17,10 +18,11 @@ pub enum Kind {
     Row,
     Bytes,
     Sets,
+    Log,
 }
 
 /// The calls but open, by their letters.
-pub const CALLS: &[(char, &[Kind])] = &[
+const CALLS: &[(char, &[Kind])] = &[
     ('k', &[Value]),
     ('f', &[Flag]),
     ('j', &[Code, Node, Node]),
@@ -30,6 +32,8 @@ pub const CALLS: &[(char, &[Kind])] = &[
     ('w', &[Node, Row]),
     ('g', &[Node, Node, Row]),
     ('p', &[Node, Value, Node, Sets]),
+    ('r', &[Node, Log]),
+    ('q', &[Node, Node, Log]),
 ];
 
 pub fn kinds(letter: char) -> &'static [Kind] {
@@ -70,6 +74,15 @@ fn edges_of_sets(rows: usize) -> [Vec<String>; 2] {
     let fit = vec![(0, 0), (rows - 1, 0), (rows - 1, rows - 1)];
     let unfit = vec![(rows, 0), (0, rows), (rows, rows), (65535, 65535), (0, 1)];
     [fit, unfit].map(|all| all.iter().map(|(fixed, ones)| format!("{fixed} {ones}")).collect())
+}
+
+/// No snapshots, one, and several; then a byte too many, and a row that is not below 2^n, each
+/// alone and behind others.
+fn edges_of_logs(rows: usize) -> [Vec<String>; 2] {
+    let all = ["0;0 last 1;0 0 2 last 3", "1;1 last 1;0 rows 1;0 last 2 rows 1;0 65535 1"];
+    let [last, rows] = [rows - 1, rows].map(|row| row.to_string());
+    let log = |words: &str| words.replace("last", &last).replace("rows", &rows);
+    all.map(|all| all.split(';').map(log).collect())
 }
 
 /// A list that is being written.
@@ -124,6 +137,7 @@ impl Scribe<'_> {
             Row => [vec![0, rows - 1], vec![rows, 65535]],
             Bytes => [vec![rows], vec![rows - 1, rows + 1, 0]],
             Sets => return edges_of_sets(rows),
+            Log => return edges_of_logs(rows),
         };
         numbers.map(|numbers| numbers.iter().map(usize::to_string).collect())
     }
@@ -151,18 +165,29 @@ impl Scribe<'_> {
         format!("{} {}", fixed & !outside, (fixed & ones) | outside)
     }
 
+    /// Up to four runs of up to three snapshots; unfit, one of the rows is not below 2^n, or there
+    /// is a byte too many.
+    fn log(&mut self, is_fit: bool) -> String {
+        let (rows, count) = (row_count(self.n()), self.dice.below(5));
+        let unfit = if is_fit { None } else { Some(self.dice.below(count + 1)) };
+        let above = |place: usize| if unfit == Some(place) { rows } else { 0 };
+        let run = |place| (above(place) + self.dice.below(rows), 1 + self.dice.below(3));
+        words_of(usize::from(unfit == Some(count)), (0..count).map(run))
+    }
+
     /// A fit argument, or an unfit one; of the operators more often one that asks both rules.
     fn argument(&mut self, kind: Kind, is_fit: bool) -> String {
         let ([fit, unfit], n) = (self.edges(kind), self.n());
         match kind {
             Sets if !self.dice.one_in(4) => self.sets(is_fit),
+            Log if !self.dice.one_in(4) => self.log(is_fit),
             _ if !is_fit => self.dice.pick(&unfit),
             Node => self.node(),
             Code if self.dice.one_in(3) => self.dice.below(16).to_string(),
             Code => self.dice.pick(&[1, 2, 4, 6, 6, 7, 8, 9, 11, 13, 14]).to_string(),
             Row => self.dice.below(row_count(n)).to_string(),
             Flag => self.dice.below(n.max(1)).to_string(),
-            Value | Bytes | Sets => self.dice.pick(&fit),
+            Value | Bytes | Sets | Log => self.dice.pick(&fit),
         }
     }
 

@@ -3,10 +3,10 @@
 //! as they are worded, and finds the packed order by trying every order, up to six flags walking
 //! each row of its collapsed tree. It finds the flags that a walk asks by the table, and by the
 //! collapsed tree. By tables alone it numbers a diagram's records, and keeps a store, with the
-//! plain book beside it; it reads and writes rule files and prints sheets. It checks the papers'
-//! examples, writes test vectors, lists a table and plays lines of files, of sheets and of store
-//! calls. "The paper" below is document 01; `Err` holds the number of a refusal. Build:
-//! rustc -O --edition 2021 second.rs
+//! plain book beside it; it reads and writes rule files, prints sheets and tallies logs. It checks
+//! the papers' examples, writes test vectors, lists a table, plays a log through one, and plays
+//! lines of files, of sheets and of store calls. "The paper" below is document 01; `Err` holds the
+//! number of a refusal. Build: rustc -O --edition 2021 second.rs
 
 mod book;
 mod damaged;
@@ -15,8 +15,11 @@ mod file_lines;
 mod files;
 mod listing;
 mod lists;
+mod log;
+mod logs;
 mod permitted;
 mod play;
+mod replays;
 mod scribe;
 mod sequence;
 mod sheet;
@@ -365,7 +368,7 @@ fn answer(ask: &str) -> Result<String, usize> {
 }
 
 /// Gives the exit code: 0 if every example agrees, and the own checks of the store, the files, the
-/// sequence and the sheet.
+/// sequence, the sheet and the logs.
 fn check() -> i32 {
     let mut code = 0;
     for (ask, expected) in EXAMPLES {
@@ -375,14 +378,20 @@ fn check() -> i32 {
             code = 1;
         }
     }
-    let faults = [worked::faults(), file_lines::faults(), sequence::faults(), sheet::faults()];
+    let faults = [
+        worked::faults(),
+        file_lines::faults(),
+        sequence::faults(),
+        sheet::faults(),
+        log::faults(),
+    ];
     for fault in faults.concat() {
         println!("second: {fault}");
         code = 1;
     }
     if code == 0 {
         let worked = worked::LISTS.len() + file_lines::WORKED.len() + sheet::WORKED.len();
-        println!("second: {} examples agree", EXAMPLES.len() + worked);
+        println!("second: {} examples agree", EXAMPLES.len() + worked + log::WORKED.len());
     }
     code
 }
@@ -544,6 +553,9 @@ fn vectors(directory: &str) -> std::io::Result<()> {
     let (listing_in, listing_out) = listing::vectors();
     std::fs::write(format!("{directory}/listing.in"), listing_in)?;
     std::fs::write(format!("{directory}/listing.out"), listing_out)?;
+    let (tally_in, tally_out) = logs::vectors();
+    std::fs::write(format!("{directory}/tally.in"), tally_in)?;
+    std::fs::write(format!("{directory}/tally.out"), tally_out)?;
     let (packed, listed) = (changed(&packed), changed(&listing::tables()));
     println!("second: request 6 gave {packed} packed tables another order, and {listed} listed");
     Ok(())
@@ -556,6 +568,7 @@ fn run(words: &[&str]) -> Option<i32> {
         ["check"] => return Some(check()),
         ["vectors", directory] => vectors(directory).expect("DIR can be written"),
         ["list"] => print!("{}", listing::say(&input())),
+        ["tally"] => print!("{}", log::say(&input())),
         ["file"] => print!("{}", file_lines::play(&String::from_utf8(input()).ok()?)),
         ["sheet"] => print!("{}", sheet::play(&String::from_utf8(input()).ok()?)),
         ["store"] => print!("{}", play::play(&String::from_utf8(input()).ok()?)),
@@ -569,7 +582,7 @@ fn main() {
     let code = run(&arguments.iter().map(String::as_str).collect::<Vec<_>>());
     if code.is_none() {
         let lines = "file <lines | sheet <lines | store <lists";
-        eprintln!("usage: second check | vectors DIR | list <table | {lines}");
+        eprintln!("usage: second check | vectors DIR | list <table | tally <log | {lines}");
     }
     std::process::exit(code.unwrap_or(2));
 }

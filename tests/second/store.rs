@@ -2,7 +2,7 @@
 //! A record is known by the rule that its node stands for, and what a result needs is read off
 //! the paper's sentences on rules.
 
-use crate::{are_unfit, is_order, refuse, WIDTH};
+use crate::{are_unfit, is_order, log, refuse, WIDTH};
 use std::collections::BTreeSet;
 
 /// A rule by its table: the set of the rows that say yes.
@@ -16,8 +16,8 @@ pub struct State {
     pub used: usize,
 }
 
-/// What a call asks, but for the nodes among its arguments. A walk has one, its rule, or behind it
-/// a pass rule too; provoke has both.
+/// What a call asks, but for the nodes among its arguments. A walk and a replay have one, their
+/// rule, or behind it a pass rule too; provoke has both.
 #[derive(Clone, Debug)]
 pub enum Ask {
     Open(State),
@@ -30,6 +30,8 @@ pub enum Ask {
     Walk(usize),
     /// The wanted answer, and two sets of flags: "which are fixed and which of these are 1".
     Provoke(usize, usize, usize),
+    /// The log's bytes.
+    Replay(Vec<u8>),
 }
 
 /// The rule of a table of bytes.
@@ -140,7 +142,8 @@ impl Store {
     }
 
     /// The refusal table down to 9, for a call whose highest node is given. Open is tested by the
-    /// state that it is given, and "tests neither 6 nor 7".
+    /// state that it is given, and "tests neither 6 nor 7". A log is "tested after 7 and before its
+    /// rows" (document 02, request 9), which are not tested here.
     pub fn test(&self, ask: &Ask, highest: usize) -> Result<(), usize> {
         let is_open = matches!(ask, Ask::Open(_));
         let State { n, order, used } = if let Ask::Open(given) = ask { given } else { &self.state };
@@ -151,7 +154,7 @@ impl Store {
             Ask::Fix(i, value) => i >= n || *value > 1,
             Ask::Walk(row) => *row >= row_count(*n),
             Ask::Provoke(wanted, fixed, ones) => is_unfit_provoke(*n, *wanted, *fixed, *ones),
-            Ask::Open(_) | Ask::Choose | Ask::Tabulate(_) => false,
+            Ask::Open(_) | Ask::Choose | Ask::Tabulate(_) | Ask::Replay(_) => false,
         };
         refuse(&[
             (1, *n > 10),
@@ -160,6 +163,7 @@ impl Store {
             (5, are_unfit(self.cells)),
             (6, !is_open && !self.is_sound()),
             (7, !is_open && highest > used + 1),
+            (16, matches!(ask, Ask::Replay(log) if log::is_unfit(log))),
             (9, unfit),
         ])
     }

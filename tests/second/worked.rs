@@ -1,6 +1,6 @@
 //! The store's own checks: lists worked out by hand, the operators by their digits, walks under
-//! pass rules beside those without, rows provoked beside such walks, and the records that a rule
-//! needs beside the nodes that the collapse leaves.
+//! pass rules beside those without, rows provoked and logs replayed beside such walks, and the
+//! records that a rule needs beside the nodes that the collapse leaves.
 
 use crate::play::play;
 use crate::store::{depends, records_of, rule_of, Rule};
@@ -180,6 +180,72 @@ pub const LISTS: &[(&str, &str)] = &[
          refused 9 used 2;refused 9 used 2;refused 9 used 2;open refused 1 used 0;\
          refused 1 used 0;end used 0",
     ),
+    // x0 and x1, and the log that rows 1, 2 and 3 make: where x0 is 0, flag 1 is not asked; with
+    // flag 1 asked first, it is flag 0 where x1 is 0. Row 0 asks one flag, row 3 both.
+    (
+        "list 3r;o 2 01 0;f 0;f 1;j 1 @1 @2;r @3 0 1 1 2 1 3 1;r @3 0;r @3 0 3 2;\
+         r @3 0 3 1 0 1 3 1;r 2 0 1 3 2 4;r @3 0 2 32766 3 1;r 1 0 3 1 0 1;r 0 0 3 4;o 2 10 9;\
+         f 0;f 1;j 1 @13 @14;r @15 0 1 1 2 1 3 1;end",
+        "open accepted used 0;rule 2 used 1;rule 3 used 2;rule 4 used 3;\
+         tally 3 1 1 3 2 0 0 0 0 0 0 0 0 used 3;tally 0 0 0 0 0 0 0 0 0 0 0 0 0 used 3;\
+         tally 2 2 0 2 2 0 0 0 0 0 0 0 0 used 3;tally 3 2 2 3 2 0 0 0 0 0 0 0 0 used 3;\
+         tally 7 3 1 7 0 0 0 0 0 0 0 0 0 used 3;tally 32767 1 1 32767 1 0 0 0 0 0 0 0 0 used 3;\
+         tally 2 2 0 0 0 0 0 0 0 0 0 0 0 used 3;tally 4 0 0 0 0 0 0 0 0 0 0 0 0 used 3;\
+         open accepted used 0;rule 2 used 1;rule 3 used 2;rule 4 used 3;\
+         tally 3 1 1 2 3 0 0 0 0 0 0 0 0 used 3;end used 3;node 2 0101;node 3 0011;node 4 0001;\
+         sum 407",
+    ),
+    // Flags 0 and 1 never both set, and x0 where x3 is 1, else x2: flag 3 is asked where x0 and x2
+    // differ, and flag 1, which the pass rule asks, never. Then 14, 9 and both, by the earliest
+    // snapshot; 16 ahead of either, 7 ahead of 16; and the same rule without a pass rule.
+    (
+        "list 10r;o 4 0123 0;f 0;f 1;j 14 @1 @2;f 2;f 3;c @5 @1 @4;\
+         q @6 @3 0 4 1 9 2 12 1 13 1 14 1;q @6 @3 0 3 1 9 1;q @6 @3 0 9 1 7 1 4 1;\
+         q @6 @3 0 9 3 15 1;q @6 @3 0 9 1 11 1 16 1;q @6 @3 0 9 1 16 1 11 1;q @6 @3 0 19 1;\
+         q @6 0 0 16 1;q @6 0 0 15 1;q @6 0 0;q @6 @3 1 3 1;q @6 @3 1 16 1;q 12 @3 1 16 1;\
+         q 11 12 1 3 1;q 12 65535 0;r @6 0 3 1;r @6 0 15 2 16 1;r 11 1;r 11 1 15 32767;\
+         q @6 @3 0 9 32766 3 1;q @6 @3 0 9 32766 16 1;end",
+        "open accepted used 0;rule 2 used 1;rule 3 used 2;rule 5 used 4;rule 6 used 5;\
+         rule 7 used 6;rule 11 used 10;tally 6 4 3 6 0 6 5 0 0 0 0 0 0 used 10;\
+         refused 14 used 10;refused 14 used 10;refused 14 used 10;refused 14 used 10;\
+         refused 9 used 10;refused 9 used 10;refused 9 used 10;refused 14 used 10;\
+         tally 0 0 0 0 0 0 0 0 0 0 0 0 0 used 10;refused 16 used 10;refused 16 used 10;\
+         refused 7 used 10;refused 7 used 10;refused 7 used 10;\
+         tally 1 0 0 1 0 1 1 0 0 0 0 0 0 used 10;refused 9 used 10;refused 16 used 10;\
+         refused 16 used 10;refused 14 used 10;refused 9 used 10;end used 10;\
+         node 2 0101010101010101;node 3 0011001100110011;node 5 1110111011101110;\
+         node 6 0000111100001111;node 7 0000000011111111;node 11 0000111101010101;sum 21358",
+    ),
+    // Ten flags, joined by AND and OR in turn: row 316 asks all, in the order 3 1 4 0 5 9 2 6 8 7,
+    // and the rows before it in the log differ from it in the first of these, the second, and so
+    // on, up to which they ask; each says yes if it has that flag at 1. Rows 258 and 513 are bytes
+    // 02 01 and 01 02. Row 318 has flag 7 at 0, row 444 at 1; row 308 has flag 3 at 0.
+    (
+        "list 19r;o 10 3140592687 0;f 7;f 8;j 1 @2 @1;f 6;j 7 @4 @3;f 2;j 1 @6 @5;f 9;j 7 @8 @7;\
+         f 5;j 1 @10 @9;f 0;j 7 @12 @11;f 4;j 1 @14 @13;f 1;j 7 @16 @15;f 3;j 1 @18 @17;\
+         r @19 0 308 1 318 1 300 1 317 1 284 1 828 1 312 1 380 1 60 1 444 1 316 1;\
+         r @2 0 258 2 513 1;q @1 @19 0 318 1 444 1;q @1 @19 0 444 1 308 1;r @19 0 1024 1;\
+         r @19 0 1023 1 65535 1;o 0 - 0;end",
+        "open accepted used 0;rule 2 used 1;rule 3 used 2;rule 4 used 3;rule 5 used 4;\
+         rule 6 used 5;rule 7 used 6;rule 8 used 7;rule 9 used 8;rule 10 used 9;rule 11 used 10;\
+         rule 12 used 11;rule 13 used 12;rule 14 used 13;rule 15 used 14;rule 16 used 15;\
+         rule 17 used 16;rule 18 used 17;rule 19 used 18;rule 20 used 19;\
+         tally 11 5 10 8 10 5 11 9 7 4 2 3 6 used 19;tally 3 2 1 0 0 0 0 0 0 0 0 3 0 used 19;\
+         tally 2 1 1 0 0 0 0 0 0 0 2 0 0 used 19;refused 14 used 19;refused 9 used 19;\
+         refused 9 used 19;open accepted used 0;end used 0;sum 0",
+    ),
+    // Replays between calls that make rules: x0 XOR x1, and the opposite of x1 within it. What they
+    // hand back is as if no log had been played.
+    (
+        "list 5r;r 1 0 0 1;o 2 01 0;f 0;r @2 0 1 2 0 1;f 1;j 6 @2 @4;x @5 0 1;r @6 0 0 1 2 1 3 1;\
+         q @5 @6 0 0 1 1 2;q @5 @6 0 0 1 2 1;t @5 4;j 1 @2 @4;r 6 0 3 1;f 1;end",
+        "refused 6 used 0;open accepted used 0;rule 2 used 1;\
+         tally 3 2 1 3 0 0 0 0 0 0 0 0 0 used 1;rule 3 used 2;rule 5 used 4;rule inner used 4;\
+         tally 3 1 1 0 3 0 0 0 0 0 0 0 0 used 4;tally 3 2 1 3 3 0 0 0 0 0 0 0 0 used 4;\
+         refused 14 used 4;table 0110 used 4;rule 6 used 5;\
+         tally 1 1 0 1 1 0 0 0 0 0 0 0 0 used 5;rule 3 used 5;end used 5;node 2 0101;node 3 0011;\
+         node 5 0110;node inner 1100;node 6 0001;sum 559",
+    ),
     // No cells hold no records, and are sound before any open.
     (
         "list 0;k 1;j 6 @0 1;f 0;t 1 1;w 1 0;w 2 0;w 1 1;o 1 - 5;f 0;k 0;end",
@@ -201,6 +267,19 @@ pub const LISTS: &[(&str, &str)] = &[
          refused 7 used 0;open accepted used 0;row 0 used 0;refused 15 used 0;refused 9 used 0;\
          open refused 4 used 3;refused 4 used 3;open refused 1 used 4;refused 1 used 4;end used 4",
     ),
+    // Row 0 is the only row of no flags.
+    (
+        "list 0;r 1 0 0 3;r 0 0 0 2;r 1 0;r 1 0 1 1;r 1 0 0 5 256 1;r 1 1;r 1 1 1 1;r 2 1 1 1;\
+         q 1 1 0 0 2;q 1 0 0 0 1;q 1 0 0 1 1;q 0 0 0;q 1 2 0 0 1;o 1 1 3;r 1 0;q 9 9 1 9 9;\
+         o 11 01 4;r 1 0 0 1;q 9 9 1 9 9;end",
+        "tally 3 3 0 0 0 0 0 0 0 0 0 0 0 used 0;tally 2 0 0 0 0 0 0 0 0 0 0 0 0 used 0;\
+         tally 0 0 0 0 0 0 0 0 0 0 0 0 0 used 0;refused 9 used 0;refused 9 used 0;\
+         refused 16 used 0;refused 16 used 0;refused 7 used 0;\
+         tally 2 2 0 0 0 0 0 0 0 0 0 0 0 used 0;refused 14 used 0;refused 9 used 0;\
+         tally 0 0 0 0 0 0 0 0 0 0 0 0 0 used 0;refused 7 used 0;open refused 4 used 3;\
+         refused 4 used 3;refused 4 used 3;open refused 1 used 4;refused 1 used 4;\
+         refused 1 used 4;end used 4",
+    ),
     // Cells as lent are not; a refused open leaves the state that it was given.
     (
         "list 1r;k 2;t 0 2;t 9 1;o 1 1 4;t 0 1;t 0 2;k 1;o 1 0 4;f 0;j 9 @8 2;j 6 2 3;x 2 1 0;end",
@@ -220,6 +299,10 @@ pub const LISTS: &[(&str, &str)] = &[
         "list 1r+1;p 1 1 1 0 0;o 1 0 4;p 9 2 9 2 1;end",
         "refused 5 used 0;open refused 5 used 4;refused 5 used 4;end used 4",
     ),
+    (
+        "list 1r+1;r 1 0 0 1;o 1 0 4;q 9 9 1 9 9;end",
+        "refused 5 used 0;open refused 5 used 4;refused 5 used 4;end used 4",
+    ),
 ];
 
 /// Joining flag 1 and flag 0 gives a table whose rows are the operator's digits.
@@ -228,22 +311,41 @@ fn by_digits(code: usize) -> bool {
     output.contains(&format!("\ntable {code:04b} used "))
 }
 
-/// Walks under the rule that a code makes of flag 1 and flag 0: a row is refused where the code's
-/// digit is 0, under 0 each row, and is answered as without a pass rule where it is 1, under 15
-/// each row.
-fn by_pass_rule(code: usize) -> bool {
+/// What is answered for each row in a store where `@7` is the rule that a code makes of flag 1 and
+/// flag 0, and `@6` is made of four flags.
+fn by_rows(code: usize, call: impl Fn(usize) -> String) -> Vec<String> {
     let made = "list 20r\no 4 2013 0\nf 1\nf 0\nf 2\nf 3\nj 1 @2 @3\nc @4 @5 @1\n";
-    let walks = |walk: &str| {
-        let rows = (0..16).map(|row| format!("{walk} {row}\n"));
-        play(&sized(&format!("{made}j {code} @1 @2\n{}", rows.collect::<String>())))
-    };
-    let [plain, passed] = [walks("w @6"), walks("g @6 @7")];
+    let calls: String = (0..16).map(|row| call(row) + "\n").collect();
+    let output = play(&sized(&format!("{made}j {code} @1 @2\n{calls}")));
+    output.lines().skip(8).map(str::to_string).collect()
+}
+
+/// Walks under `@7`: a row is refused where the code's digit is 0, under 0 each row, and is
+/// answered as without a pass rule where it is 1, under 15 each row.
+fn by_pass_rule(code: usize) -> bool {
+    let [plain, passed] =
+        ["w @6", "g @6 @7"].map(|walk| by_rows(code, |row| format!("{walk} {row}")));
     let digits = format!("{code:04b}").repeat(4);
-    let mut rows = digits.chars().zip(plain.lines().zip(passed.lines()).skip(8));
+    let mut rows = digits.chars().zip(plain.iter().zip(&passed));
     rows.all(|(digit, (plain, passed))| match digit {
         '1' => passed == plain,
         _ => passed.starts_with("refused 14 "),
     })
+}
+
+/// Logs of one snapshot under `@7`: they are refused as walks are, or tally the walk's answer and
+/// each of its flags once.
+fn by_snapshots(code: usize) -> bool {
+    let tallied = |walked: &String| match walked.split(' ').collect::<Vec<_>>()[..] {
+        ["answer", answer, "asked", set, "number", _, "used", used] => {
+            let set: usize = set.parse().expect("a set");
+            let asked: String = (0..10).map(|v| format!(" {}", (set >> v) & 1)).collect();
+            format!("tally 1 {answer} 0{asked} used {used}")
+        }
+        _ => walked.clone(),
+    };
+    let walks = by_rows(code, |row| format!("g @6 @7 {row}"));
+    walks.iter().map(tallied).eq(by_rows(code, |row| format!("q @6 @7 0 {row} 1")))
 }
 
 /// Rows provoked under the rule that a code makes of flag 1 and flag 0, the three flags being free
@@ -287,6 +389,7 @@ pub fn faults() -> Vec<String> {
     }
     faults.extend((0..16).filter(|&code| !by_digits(code)).map(|code| format!("operator {code}")));
     faults.extend((0..16).filter(|&c| !by_pass_rule(c)).map(|code| format!("pass rule {code}")));
+    faults.extend((0..16).filter(|&c| !by_snapshots(c)).map(|code| format!("logs under {code}")));
     faults.extend((0..16).filter(|&c| !by_walks(c)).map(|code| format!("provoked under {code}")));
     for table in (0..=3).flat_map(all_tables) {
         let orders = orders(flag_count(&table), &[]).into_iter();

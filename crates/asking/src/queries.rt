@@ -2,14 +2,18 @@ use crate::answers::Reached;
 use crate::answers::done;
 use crate::answers::said;
 use crate::answers::sought;
+use crate::answers::tallied;
 use rule::Node;
 use rule::Pass;
 use store::Passed;
+use store::Replayed;
 use store::Store;
 ghost use mathlib.Core.Path.{_≡_};
 ghost use lib.ListN.{take, drop};
 ghost use Rattle.rule.specs.Answers.{doneReply};
-ghost use Rattle.rule.specs.Calls.{Tabulate};
+ghost use Rattle.rule.specs.Calls.{Tabulate, Replay};
+ghost use Rattle.rule.specs.Pass.{passOf};
+ghost use Rattle.tallying.specs.Tally.{talliedReply};
 ghost use Rattle.store.specs.State.{stateOf};
 ghost use Rattle.asking.specs.Query.{Answers};
 
@@ -32,6 +36,12 @@ pub enum Query {
         fixed: u16,
         ones: u16,
     },
+    // The log is so many of the lent bytes, from the first on.
+    Replay {
+        rule: Node,
+        pass: Pass,
+        length: u16,
+    },
 }
 
 // Tabulate into so many of the lent bytes, from the first on: into all, where there are fewer.
@@ -44,6 +54,24 @@ fn tabulated(store: Store, cells: &[u16], rule: Node, length: u16, bytes: &mut [
         return store.tabulate(cells, rule, bytes);
     }
     store.tabulate(cells, rule, &mut bytes[0..end])
+}
+
+// Replay a log that is so many of the lent bytes, from the first on: all, where there are fewer.
+fn replayed(
+    store: Store,
+    cells: &[u16],
+    rule: Node,
+    pass: Pass,
+    length: u16,
+    bytes: &[u8],
+) -> Replayed
+    ensures { λ r. ⌜ Replay (stateOf store) (now (cells .entry)) (rule .number) (passOf pass) (take length (now (bytes .entry))) (talliedReply (r .tally) (r .answer)) (stateOf (r .store)) ⌝ }
+{
+    let size = length as usize;
+    if bytes.len() <= size {
+        return store.replay(cells, rule, pass, bytes);
+    }
+    store.replay(cells, rule, pass, &bytes[0..size])
 }
 
 // Make one call that makes no rule.
@@ -60,5 +88,8 @@ pub fn ask(store: Store, cells: &[u16], query: Query, bytes: &mut [u8]) -> Reach
             fixed,
             ones,
         } => sought(store.provoke(cells, rule, wanted, pass, fixed, ones)),
+        Query::Replay { rule, pass, length } => {
+            tallied(replayed(store, cells, rule, pass, length, bytes))
+        }
     }
 }

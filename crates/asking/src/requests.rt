@@ -21,7 +21,7 @@ pub enum Making {
     },
 }
 
-// One of the nine calls with its arguments. (The state that open is given stands beside it: an enum holds no array.)
+// One of the ten calls with its arguments. (The state that open is given stands beside it: an enum holds no array.)
 pub enum Request {
     Open,
     Constant(u16),

@@ -9,6 +9,7 @@ use Rattle.rule.specs.Calls.{State}
 use Rattle.rule.specs.History.{Asked}
 use Rattle.rule.specs.declared.node.Node.{Node}
 use Rattle.rule.specs.declared.pass.Pass.the-variants as the-pass
+use Rattle.asking.specs.declared.queries.Query.{Query}
 use Rattle.asking.specs.declared.queries.Query.the-variants as the-query
 use Rattle.asking.specs.declared.requests.Making.the-variants as the-making
 use Rattle.asking.specs.declared.requests.Request.{Request}
@@ -22,9 +23,20 @@ callWords = 13
 abbrev pub node : ℕ → Node
 node m = record { number = m }
 
--- the call of a kind, with its arguments: of the first a join takes the last eight bits; the second of tabulate is how many of the lent bytes it is given, or
--- all where there are fewer. The kind 8 is a walk under a pass rule, its second argument, for the row that is the third; 9 a provoke: the rule, the wanted
--- answer, the pass rule, the fixed flags and those of them that are 1; 7 and any other is a walk without a pass rule, for the row that is the second.
+-- the call of a kind that makes no rule, with its arguments, of which the first is the rule: 6 is a tabulate, its second argument how many of the lent bytes it
+-- is given, or all where there are fewer; 8 a walk under a pass rule, its second argument, for the row that is the third; 9 a provoke: the wanted answer, the
+-- pass rule, the fixed flags and those of them that are 1; 10 a replay without a pass rule of a log that is so many of the lent bytes, as for 6; 11 a replay
+-- under a pass rule, its second argument, the third being how many bytes; 7 and any other is a walk without a pass rule, for the row that is the second
+abbrev pub queryBy : ℕ → ℕ → ℕ → ℕ → ℕ → ℕ → Query
+queryBy kind x y z u v =
+    cond (eqb kind 6) (the-query.Tabulate (node x) y)
+    (cond (eqb kind 8) (the-query.Walk (node x) (the-pass.Rule (node y)) z)
+    (cond (eqb kind 9) (the-query.Provoke (node x) y (node z) u v)
+    (cond (eqb kind 10) (the-query.Replay (node x) the-pass.EveryRow y)
+    (cond (eqb kind 11) (the-query.Replay (node x) (the-pass.Rule (node y)) z)
+    (the-query.Walk (node x) the-pass.EveryRow y)))))
+
+-- the call of a kind, with its arguments: of the first a join takes the last eight bits
 abbrev pub requestBy : ℕ → ℕ → ℕ → ℕ → ℕ → ℕ → Request
 requestBy kind x y z u v =
     cond (eqb kind 0) the-request.Open
@@ -33,10 +45,7 @@ requestBy kind x y z u v =
     (cond (eqb kind 3) (the-request.Make (the-making.Join (x % 256) (node y) (node z)))
     (cond (eqb kind 4) (the-request.Make (the-making.Choose (node x) (node y) (node z)))
     (cond (eqb kind 5) (the-request.Make (the-making.Fix (node x) y z))
-    (cond (eqb kind 6) (the-request.Ask (the-query.Tabulate (node x) y))
-    (cond (eqb kind 8) (the-request.Ask (the-query.Walk (node x) (the-pass.Rule (node y)) z))
-    (cond (eqb kind 9) (the-request.Ask (the-query.Provoke (node x) y (node z) u v))
-    (the-request.Ask (the-query.Walk (node x) the-pass.EveryRow y))))))))))
+    (the-request.Ask (queryBy kind x y z u v)))))))
 
 -- the call that is coded from a word on
 unfoldable pub requestAt : List ℕ → ℕ → Request

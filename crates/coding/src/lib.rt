@@ -10,7 +10,7 @@ ghost use mathlib.Core.Path.{_≡_};
 ghost use Prim.Native.Nat.{_+_, _%_, _≤_, _<_};
 ghost use lib.ListN.{length};
 ghost use Rattle.store.specs.State.{stateOf};
-ghost use Rattle.coding.specs.Coded.{callWords, requestBy, requestAt, byteAt, givenAt};
+ghost use Rattle.coding.specs.Coded.{callWords, queryBy, requestBy, requestAt, byteAt, givenAt};
 
 // The words of one call.
 pub const CALL: usize = 13;
@@ -20,6 +20,43 @@ fn byte(word: u16) -> u8
     ensures { λ r. ⌜ r ≡ word % 256 ⌝ }
 {
     (word % 256) as u8
+}
+
+// The call of a kind that makes no rule, with its arguments.
+fn query_by(kind: u16, x: u16, y: u16, z: u16, u: u16, v: u16) -> Query
+    ensures { λ r. ⌜ r ≡ queryBy kind x y z u v ⌝ }
+{
+    let rule = Node { number: x };
+    match kind {
+        6 => Query::Tabulate { rule, length: y },
+        8 => Query::Walk {
+            rule,
+            pass: Pass::Rule(Node { number: y }),
+            row: z,
+        },
+        9 => Query::Provoke {
+            rule,
+            wanted: y,
+            pass: Node { number: z },
+            fixed: u,
+            ones: v,
+        },
+        10 => Query::Replay {
+            rule,
+            pass: Pass::EveryRow,
+            length: y,
+        },
+        11 => Query::Replay {
+            rule,
+            pass: Pass::Rule(Node { number: y }),
+            length: z,
+        },
+        _ => Query::Walk {
+            rule,
+            pass: Pass::EveryRow,
+            row: y,
+        },
+    }
 }
 
 // The call of a kind, with its arguments.
@@ -46,27 +83,7 @@ fn request_by(kind: u16, x: u16, y: u16, z: u16, u: u16, v: u16) -> Request
             flag: y,
             value: z,
         }),
-        6 => Request::Ask(Query::Tabulate {
-            rule: Node { number: x },
-            length: y,
-        }),
-        8 => Request::Ask(Query::Walk {
-            rule: Node { number: x },
-            pass: Pass::Rule(Node { number: y }),
-            row: z,
-        }),
-        9 => Request::Ask(Query::Provoke {
-            rule: Node { number: x },
-            wanted: y,
-            pass: Node { number: z },
-            fixed: u,
-            ones: v,
-        }),
-        _ => Request::Ask(Query::Walk {
-            rule: Node { number: x },
-            pass: Pass::EveryRow,
-            row: y,
-        }),
+        _ => Request::Ask(query_by(kind, x, y, z, u, v)),
     }
 }
 

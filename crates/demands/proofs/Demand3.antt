@@ -1,9 +1,9 @@
 -- Demand 3, whole: what is in the book after a list of calls answers so, and is brought out well.
 -- Assumes nothing.
-use mathlib.Core.Path.{_≡_, refl, sym, ap, _∙_}
+use mathlib.Core.Path.{_≡_, refl, sym, ap, subst, _∙_}
 use mathlib.Core.Logic.{_≢_}
 use mathlib.Core.Bool.{Bool, true, false, not}
-use mathlib.Core.List.{List, [], _∷_}
+use mathlib.Core.List.{List, [], _∷_, map}
 use mathlib.Core.Option.{Option, none, some}
 use Prim.Native.Nat.{ℕ, _+_, _^_, _≤_, _<_}
 use native.Mathlib.Omega.{arith}
@@ -11,23 +11,26 @@ use borrow.Author.Tests.{le-ltb, ltb-false, leb-false, not-false}
 use lib.Dec.{ltb}
 use lib.ListN.{length, getD, drop}
 use Rattle.rule.specs.Table.{fitLength}
-use Rattle.rule.specs.Order.{fitOrder}
+use Rattle.rule.specs.Order.{flags, fitOrder}
 use Rattle.rule.specs.Cells.{fitCells}
 use Rattle.rule.specs.Walk.{walk, walkValues, tableOf}
-use Rattle.rule.specs.Refusals.{Row, refusal, tabulateRows, walkRows, provokeRows}
-use Rattle.rule.specs.Reply.{Reply, numberOf, Accepted, leaves}
-use Rattle.rule.specs.Calls.{State, Tabulate, Walk, Provoke}
-use Rattle.rule.specs.Results.{tabulating, walking, provoking, answered}
+use Rattle.rule.specs.Log.{snapshots, playedIn, playedBy}
+use Rattle.rule.specs.Refusals.{Row, refusal, flagCount, orderPlaces, tabulateRows, walkRows, provokeRows, replayRows}
+use Rattle.rule.specs.Reply.{Reply, refused, reply, numberOf, Accepted, leaves}
+use Rattle.rule.specs.Calls.{State, Replays, Tabulate, Walk, Provoke, Replay}
+use Rattle.rule.specs.Results.{tabulating, walking, provoking, replaying, answered}
 use Rattle.rule.specs.History.{Asked, open-call, constant-call, making-call, query-call, Call, MeetsBy, OpensBy, Book, inBook}
-use Rattle.rule.specs.Demands.{Gives, PassRuleSays, ProvokedInBook, RuleKept, ObeysBy, Obeys, Demand3}
+use Rattle.rule.specs.Demands.{Gives, PassRuleSays, ProvokedInBook, logRowsBy, tallyBy, ReplayedBy, ReplayedInBook, PassInBook, RuleKept, ObeysBy, Obeys, Demand3, NodesFit, RulesFit, passTable}
 use Rattle.theory.proofs.Walks.{length-table, table-row}
-use Rattle.theory.proofs.Refused.{passed, refusal-le}
+use Rattle.theory.proofs.Refused.{passed, behind-passed, refusal-le}
+use Rattle.theory.proofs.Log.{zero-tally}
 use Rattle.demands.proofs.Stands.{accepted-reply, accepted-zero, number-of, number-was}
 use Rattle.demands.proofs.Counts.{equally, equally-asked}
 use Rattle.demands.proofs.Packed.{packed-well}
-use Rattle.demands.proofs.Beside.{After, live, shut, steps-from-open, throughout-from-open, agrees-from-open}
+use Rattle.demands.proofs.Beside.{Keeps, After, live, shut, steps-from-open, throughout-from-open, agrees-from-open}
 use Rattle.demands.proofs.PassRule as pass-rule
 use Rattle.demands.proofs.Provocation as provocation
+use Rattle.demands.proofs.RigLog as rig-log
 
 -- ---- the number that tabulate gives
 
@@ -105,28 +108,34 @@ rule-kept a m t p =
 
 -- ---- a provoke of two rules in the book
 
-in-book : {s : State} {c : List ℕ} {b : Book} → After s c b → (m p : ℕ) (t u : List ℕ) → inBook b m ≡ some t → inBook b p ≡ some u
-    → (wanted fixed ones : ℕ) (r : Reply) (s′ : State) → Provoke s c m wanted p fixed ones r s′ → ProvokedInBook t wanted u fixed ones r
-in-book {s} {c} (live k) m p t u e f wanted fixed ones r s′ x =
-    let (there-m, is-t) = k .rules m t e in
-    let (there-p, is-u) = k .rules p u f in
-    let by = provocation.lowest (s .n) (s .used) m wanted p fixed ones (s .places) c (x .asks) in
-    let fit = provocation.neither (s .n) (s .used) m wanted p fixed ones (s .places) c (x .asks) (record {
+-- the cells and two of their nodes are fit
+nodes-fit : {s : State} {c : List ℕ} {b : Book} → Keeps s c b → (m p : ℕ) → m ≤ s .used + 1 → p ≤ s .used + 1
+    → NodesFit (s .n) (s .used) m p (s .places) c
+nodes-fit {s} k m p there-m there-p =
+    record {
       few = ltb-false 10 (s .n) (k .few);
       order-fits = not-false _ (k .order-fits);
       lent = k .lent;
       is-sound = k .is-sound;
       rule = there-m;
       pass-rule = there-p;
-    }) in
+    }
+
+in-book : {s : State} {c : List ℕ} {b : Book} → After s c b → (m p : ℕ) (t u : List ℕ) → inBook b m ≡ some t → inBook b p ≡ some u
+    → (wanted fixed ones : ℕ) (r : Reply) (s′ : State) → Provoke s c m wanted p fixed ones r s′ → ProvokedInBook t wanted u fixed ones r
+in-book {s} {c} (live k) m p t u e f wanted fixed ones r s′ x =
+    let (there-m, is-t) = k .rules m t e in
+    let (there-p, is-u) = k .rules p u f in
+    let by = provocation.lowest (s .n) (s .used) m wanted p fixed ones (s .places) c (x .asks) in
+    let fit = provocation.neither (s .n) (s .used) m wanted p fixed ones (s .places) c (x .asks) (nodes-fit k m p there-m there-p) in
     (rw (is-t, is-u) at by, fit .0, fit .1)
 in-book {s} {c} (shut g k h) m p t u e f wanted fixed ones r s′ x =
     let rows = provokeRows (s .n) (s .places) c (s .used) m wanted p fixed ones in
-    let number = ap numberOf (x .asks .answer) ∙ number-of (refusal rows) (answered (s .n) c (provoking m wanted p fixed ones)) in
+    let number = ap numberOf (x .asks .answer) ∙ number-of (refusal rows) (answered (s .n) c (provoking m wanted p fixed ones) []) in
     let few = shut-le (ltb 10 (s .n)) false (not (fitOrder (s .n) (s .places))) (drop 2 rows) h in (
       record {
         row-is = λ a.
-            let (n-fits, (o, _)) = passed rows refl (accepted-zero (refusal rows) (answered (s .n) c (provoking m wanted p fixed ones)) (x .asks .answer) a) in
+            let (n-fits, (o, _)) = passed rows refl (accepted-zero (refusal rows) (answered (s .n) c (provoking m wanted p fixed ones) []) (x .asks .answer) a) in
             absurd (h n-fits o);
         none-is = λ q. absurd (omega (arith, q, number, few));
       },
@@ -134,7 +143,57 @@ in-book {s} {c} (shut g k h) m p t u e f wanted fixed ones r s′ x =
       (λ q. omega (arith, q, number, few)),
     )
 
--- ---- the list's own walks and provokes
+-- ---- a log that is played through a rule in the book
+
+-- the cells and the nodes are fit, under a pass rule in the book or none
+rules-fit : {s : State} {c : List ℕ} {b : Book} → Keeps s c b → (m : ℕ) (pass : Option ℕ) (t : List ℕ) (u : Option (List ℕ)) → inBook b m ≡ some t
+    → PassInBook b pass u → RulesFit (s .n) (s .used) m pass (s .places) c
+rules-fit k m none t u e f = nodes-fit k m 1 (k .rules m t e .0) (omega arith)
+rules-fit k m (some p) t u e (v, _, g) = nodes-fit k m p (k .rules m t e .0) (k .rules p v g .0)
+
+-- the book has the pass rule's table
+pass-table : {s : State} {c : List ℕ} {b : Book} → Keeps s c b → (pass : Option ℕ) (u : Option (List ℕ)) → PassInBook b pass u → passTable (s .n) c pass ≡ u
+pass-table k none u f = sym f
+pass-table k (some p) u (v, e, g) = ap some (k .rules p v g .1) ∙ sym e
+
+-- under a shut state 1 or 4 comes ahead of all other rows
+shut-reply : (a b : Bool) (rest more : List Row) (values other : List ℕ) → (a ≡ false → b ≡ false → ⊥) → map {B = ℕ} (λ v. 0) values ≡ map (λ v. 0) other
+    → reply (refusal ((a, 1) ∷ (b, 4) ∷ rest)) values ≡ reply (refusal ((a, 1) ∷ (b, 4) ∷ more)) other
+shut-reply true b rest more values other h e = ap (refused 1) e
+shut-reply false true rest more values other h e = ap (refused 4) e
+shut-reply false false rest more values other h e = absurd (h refl refl)
+
+-- else the log goes by the book's tables
+log-in-book : {s : State} {c : List ℕ} {b : Book} → After s c b → (m : ℕ) (pass : Option ℕ) (t : List ℕ) (u : Option (List ℕ)) → inBook b m ≡ some t
+    → PassInBook b pass u → (log : List ℕ) (r : Reply) (s′ : State) → Replay s c m pass log r s′ → ReplayedInBook (s .n) (s .places) t u log r
+log-in-book {s} {c} (live k) m pass t u e f log r s′ x =
+    let by : ReplayedBy (s .n) (s .places) t u log r =
+    subst (λ (v : Option (List ℕ)). ReplayedBy (s .n) (s .places) t v log r) (pass-table k pass u f)
+    (subst (λ (v : List ℕ). ReplayedBy (s .n) (s .places) v (passTable (s .n) c pass) log r) (k .rules m t e .1)
+    (rig-log.by-tables (s .n) (s .used) m pass (s .places) c log (x .asks) (rules-fit k m pass t u e f))) in
+    by ∙ ap (λ (i : ℕ). reply i (tallyBy (s .n) (s .places) t log))
+    (sym (behind-passed (flagCount (s .n) ∷ orderPlaces (s .n) (s .places) ∷ []) (logRowsBy (s .n) u log) (k .few, (k .order-fits, tt))))
+log-in-book {s} {c} (shut g k h) m pass t u e f log r s′ x =
+    let n = s .n in
+    x .asks .answer
+    ∙ shut-reply (ltb 10 n) (not (fitOrder n (s .places))) (drop 2 (replayRows n (s .places) c (s .used) m pass log)) (logRowsBy n u log)
+    (answered n c (replaying m pass) log)
+    (tallyBy n (s .places) t log)
+    h
+    (zero-tally n (playedIn n c m (snapshots log)) ∙ sym (zero-tally n (playedBy (flags n (s .places)) t (snapshots log))))
+
+-- and it is refused under neither 6 nor 7
+log-there : {s : State} {c : List ℕ} {b : Book} → After s c b → (m : ℕ) (pass : Option ℕ) (t : List ℕ) (u : Option (List ℕ)) → inBook b m ≡ some t
+    → PassInBook b pass u → (log : List ℕ) (r : Reply) → Replays (s .n) (s .places) c (s .used) m pass log r → (numberOf r ≢ 6) × (numberOf r ≢ 7)
+log-there {s} {c} (live k) m pass t u e f log r x =
+    rig-log.neither (s .n) (s .used) m pass (s .places) c log x (rules-fit k m pass t u e f)
+log-there {s} {c} (shut g k h) m pass t u e f log r x =
+    let rows = replayRows (s .n) (s .places) c (s .used) m pass log in
+    let number = ap numberOf (x .answer) ∙ number-of (refusal rows) (answered (s .n) c (replaying m pass) log) in
+    let few = shut-le (ltb 10 (s .n)) false (not (fitOrder (s .n) (s .places))) (drop 2 rows) h in
+    (λ q. omega (arith, q, number, few), λ q. omega (arith, q, number, few))
+
+-- ---- the list's own walks, provokes and logs
 
 opens-obey : (b : Book) (q : Asked) (r : Reply) → OpensBy q r → ObeysBy b q r
 opens-obey b (open-call given) r h = tt
@@ -153,6 +212,8 @@ call-obeys (query-call (walking m (some p) row)) x (y, _) a =
 call-obeys (query-call (provoking m wanted p fixed ones)) x (y, _) a =
     λ t u e f.
     in-book a m p t u e f wanted fixed ones (x .answer) (x .state) (record { state = y .state; asks = record { answer = y .asks .answer; bytes-are = refl } })
+call-obeys (query-call (replaying m pass)) x (y, _) a =
+    λ t u e f. log-there a m pass t u e f (x .lent) (x .answer) (record { answer = y .asks .answer; bytes-are = refl })
 
 -- ---- the list
 
@@ -161,6 +222,7 @@ demand3 first s cells c b xs ys h =
     record {
       kept = rule-kept (steps-from-open first s cells c b xs ys h);
       provoked = in-book (steps-from-open first s cells c b xs ys h);
+      replayed = log-in-book (steps-from-open first s cells c b xs ys h);
       rewritten = agrees-from-open first s cells c b xs ys h;
       obeyed = throughout-from-open Obeys (λ s c b x y h. opens-obey b (x .asked) (x .answer) h) (λ s c b x y a. call-obeys (x .asked) x y a) first s cells c b xs
           ys h;

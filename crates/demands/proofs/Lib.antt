@@ -17,6 +17,7 @@ pub mod Packed
 pub mod Beside
 pub mod PassRule
 pub mod Provocation
+pub mod RigLog
 pub mod Demand3
 pub mod Reported
 pub mod Pages

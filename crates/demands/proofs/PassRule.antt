@@ -32,8 +32,8 @@ module _ (n used m p row : ℕ) (order c : List ℕ) where
   abbrev plainRows : List Row
   plainRows = walkRows n order c used m none row
 
-  abbrev passRows : List Row
-  passRows = walkRows n order c used m (some p) row
+  abbrev underRows : List Row
+  underRows = walkRows n order c used m (some p) row
 
   -- of these the rows ahead of the pass rule's 7, and those ahead of its 14
   abbrev ruleRows : List Row
@@ -43,15 +43,15 @@ module _ (n used m p row : ℕ) (order c : List ℕ) where
   before = ruleRows ++ (node used p ∷ rowArgument n row ∷ [])
 
   -- where none applies it has 1 in the row
-  pub allowed : refusal passRows ≡ 0 → Passed before × (getD (tableOf n c p) row 0 ≡ 1)
+  pub allowed : refusal underRows ≡ 0 → Passed before × (getD (tableOf n c p) row 0 ≡ 1)
   allowed z =
-      let (few, (o, (f, (s, (h, (g, (l, (b, _)))))))) = passed passRows refl z in
+      let (few, (o, (f, (s, (h, (g, (l, (b, _)))))))) = passed underRows refl z in
       let lt = row-lt (tableOf n c p) (fit-table (smaller (sound-shape n order c used (not-false _ s))) n p (ltb-false (used + 1) p g)) row in
       let other = eqb-false (getD (tableOf n c p) row 0) 0 b in
       ((few, (o, (f, (s, (h, (g, (l, tt))))))), omega (arith, lt, other))
 
   -- and where 14 does it has 0
-  pub forbidden : refusal passRows ≡ 14 → Passed before × (getD (tableOf n c p) row 0 ≡ 0)
+  pub forbidden : refusal underRows ≡ 14 → Passed before × (getD (tableOf n c p) row 0 ≡ 0)
   forbidden z = let (q, b) = last-given 13 before (eqb (getD (tableOf n c p) row 0) 0) refl z in (q, eqb-true _ 0 b)
 
   -- without it there are no rows but these
@@ -66,7 +66,7 @@ module _ (n used m p row : ℕ) (order c : List ℕ) where
   there : Passed before → p ≤ used + 1
   there (_, (_, (_, (_, (_, (g, _)))))) = ltb-false (used + 1) p g
 
-  far : Passed ruleRows → used + 1 < p → refusal passRows ≡ 7
+  far : Passed ruleRows → used + 1 < p → refusal underRows ≡ 7
   far h g = behind-passed ruleRows (node used p ∷ rowRows n c (some p) row) h ∙ rw (lt-ltb (used + 1) p g)
 
   module _ {q r : Reply} (x : Walks n order c used m none row q) (y : Walks n order c used m (some p) row r) where
@@ -77,17 +77,17 @@ module _ (n used m p row : ℕ) (order c : List ℕ) where
     alone : numberOf q ≡ refusal plainRows
     alone = ap numberOf (x .answer) ∙ number-of (refusal plainRows) values
 
-    under : numberOf r ≡ refusal passRows
-    under = ap numberOf (y .answer) ∙ number-of (refusal passRows) values
+    under : numberOf r ≡ refusal underRows
+    under = ap numberOf (y .answer) ∙ number-of (refusal underRows) values
 
-    alike : refusal passRows ≡ refusal plainRows → r ≡ q
+    alike : refusal underRows ≡ refusal plainRows → r ≡ q
     alike e = y .answer ∙ ap (λ (k : ℕ). reply k values) e ∙ sym (x .answer)
 
     alone-zero : Accepted q → refusal plainRows ≡ 0
     alone-zero = accepted-zero (refusal plainRows) values (x .answer)
 
-    under-zero : Accepted r → refusal passRows ≡ 0
-    under-zero = accepted-zero (refusal passRows) values (y .answer)
+    under-zero : Accepted r → refusal underRows ≡ 0
+    under-zero = accepted-zero (refusal underRows) values (y .answer)
 
     taken : Passed before → Accepted q
     taken h = zero-accepted (refusal plainRows) values (x .answer) (without h)
@@ -105,8 +105,8 @@ module _ (n used m p row : ℕ) (order c : List ℕ) where
     allows (a, g, e) =
         let (few, (o, (f, (s, (h, (i, (l, _))))))) = together (alone-zero a) g in
         let b = ne-eqb (getD (tableOf n c p) row 0) 0 (λ z. omega (arith, z, e)) in
-        zero-accepted (refusal passRows) values (y .answer)
-        (none-applies passRows (few, (o, (f, (s, (h, (i, (l, (b, tt)))))))))
+        zero-accepted (refusal underRows) values (y .answer)
+        (none-applies underRows (few, (o, (f, (s, (h, (i, (l, (b, tt)))))))))
 
     same : Accepted r → r ≡ q
     same a = alike (under-zero a ∙ sym (alone-zero (is-allowed a .0)))
@@ -126,7 +126,7 @@ module _ (n used m p row : ℕ) (order c : List ℕ) where
     nine : numberOf q ≡ 9 → p ≤ used + 1 → r ≡ q
     nine k g =
         let ((few, (o, (f, (s, (h, _))))), l) = no-row k in
-        let z : refusal passRows ≡ 9 =
+        let z : refusal underRows ≡ 9 =
         behind-passed (ruleRows ++ (node used p ∷ [])) (rowRows n c (some p) row) (few, (o, (f, (s, (h, (le-ltb (used + 1) p g, tt)))))) ∙ rw l in
         alike (z ∙ sym k ∙ alone)
 

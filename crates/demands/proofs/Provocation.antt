@@ -28,6 +28,29 @@ use Rattle.theory.proofs.Serving.{none-serves, first-serves}
 use Rattle.theory.proofs.Refused.{Passed, passed, none-applies, refused-more, behind-passed, refusal-le, refused-reply}
 use Rattle.demands.proofs.Stands.{accepted-zero, zero-accepted, number-of}
 
+-- ---- what is tested of the cells and the nodes
+
+module _ (n used m p : ℕ) (order c : List ℕ) where
+  abbrev nodeRows : List Row
+  nodeRows = flagCount n ∷ orderPlaces n order ∷ cells c ∷ records n order c used ∷ node used m ∷ node used p ∷ []
+
+  pub nodes-fit : Passed nodeRows → NodesFit n used m p order c
+  nodes-fit (few, (o, (f, (s, (h, (g, _)))))) =
+      record {
+        few = ltb-false 10 n few;
+        order-fits = not-false _ o;
+        lent = not-false _ f;
+        is-sound = not-false _ s;
+        rule = ltb-false (used + 1) m h;
+        pass-rule = ltb-false (used + 1) p g;
+      }
+
+  pub fit-nodes : NodesFit n used m p order c → Passed nodeRows
+  fit-nodes x = (
+    le-ltb 10 n (x .few),
+    (ap not (x .order-fits), (ap not (x .lent), (ap not (x .is-sound), (le-ltb (used + 1) m (x .rule), (le-ltb (used + 1) p (x .pass-rule), tt))))),
+  )
+
 -- ---- what refusal 9 tests
 
 module _ (n wanted fixed ones : ℕ) where
@@ -73,8 +96,8 @@ module _ (n used m wanted p fixed ones : ℕ) (order c : List ℕ) where
   found = servingIn n c m wanted p fixed ones
 
   -- the rows of the refusal table: those of the cells and of both nodes, those of the aim, and the last; all together
-  abbrev nodeRows : List Row
-  nodeRows = flagCount n ∷ orderPlaces n order ∷ cells c ∷ records n order c used ∷ node used m ∷ node used p ∷ []
+  abbrev nodes : List Row
+  nodes = nodeRows n used m p order c
 
   abbrev aim : List Row
   aim = aimRows n wanted fixed ones
@@ -85,51 +108,34 @@ module _ (n used m wanted p fixed ones : ℕ) (order c : List ℕ) where
   abbrev all : List Row
   all = provokeRows n order c used m wanted p fixed ones
 
-  nodes-fit : Passed nodeRows → NodesFit n used m p order c
-  nodes-fit (few, (o, (f, (s, (h, (g, _)))))) =
-      record {
-        few = ltb-false 10 n few;
-        order-fits = not-false _ o;
-        lent = not-false _ f;
-        is-sound = not-false _ s;
-        rule = ltb-false (used + 1) m h;
-        pass-rule = ltb-false (used + 1) p g;
-      }
-
-  fit-nodes : NodesFit n used m p order c → Passed nodeRows
-  fit-nodes x = (
-    le-ltb 10 n (x .few),
-    (ap not (x .order-fits), (ap not (x .lent), (ap not (x .is-sound), (le-ltb (used + 1) m (x .rule), (le-ltb (used + 1) p (x .pass-rule), tt))))),
-  )
-
   -- what is given: a number of the cells and the nodes; 9; or what the rows that serve tell
   data Outcome : Type 0 where
-    ahead : refusal nodeRows ≢ 0 → refusal all ≡ refusal nodeRows → refusal all ≤ 7 → Outcome
-    unfit : Passed nodeRows → refusal aim ≢ 0 → refusal all ≡ 9 → Outcome
-    none : Passed nodeRows → Passed aim → found ≡ [] → refusal all ≡ 15 → Outcome
-    one : (x : ℕ) (xs : List ℕ) → Passed nodeRows → Passed aim → found ≡ x ∷ xs → refusal all ≡ 0 → Outcome
+    ahead : refusal nodes ≢ 0 → refusal all ≡ refusal nodes → refusal all ≤ 7 → Outcome
+    unfit : Passed nodes → refusal aim ≢ 0 → refusal all ≡ 9 → Outcome
+    none : Passed nodes → Passed aim → found ≡ [] → refusal all ≡ 15 → Outcome
+    one : (x : ℕ) (xs : List ℕ) → Passed nodes → Passed aim → found ≡ x ∷ xs → refusal all ≡ 0 → Outcome
 
   outcome : Outcome
-  outcome = go (ℕ-discrete (refusal nodeRows) 0) (ℕ-discrete (refusal aim) 0)
+  outcome = go (ℕ-discrete (refusal nodes) 0) (ℕ-discrete (refusal aim) 0)
     where
-      listed : Passed nodeRows → Passed aim → (l : List ℕ) → found ≡ l → Outcome
-      listed x y [] e = none x y e (behind-passed nodeRows (aim ++ last) x ∙ behind-passed aim last y ∙ rw e)
+      listed : Passed nodes → Passed aim → (l : List ℕ) → found ≡ l → Outcome
+      listed x y [] e = none x y e (behind-passed nodes (aim ++ last) x ∙ behind-passed aim last y ∙ rw e)
       listed x y (r ∷ l) e =
-          one r l x y e (behind-passed nodeRows (aim ++ last) x ∙ behind-passed aim last y ∙ rw (e, ne-eqb (length (r ∷ l)) 0 (λ q. omega arith)))
+          one r l x y e (behind-passed nodes (aim ++ last) x ∙ behind-passed aim last y ∙ rw (e, ne-eqb (length (r ∷ l)) 0 (λ q. omega arith)))
 
-      go : Dec (refusal nodeRows ≡ 0) → Dec (refusal aim ≡ 0) → Outcome
-      go (no d) q = let e = sym (refused-more nodeRows (aim ++ last) d) in ahead d e (omega (arith, e, refusal-le 7 nodeRows refl))
+      go : Dec (refusal nodes ≡ 0) → Dec (refusal aim ≡ 0) → Outcome
+      go (no d) q = let e = sym (refused-more nodes (aim ++ last) d) in ahead d e (omega (arith, e, refusal-le 7 nodes refl))
       go (yes z) (no d) =
-          let x = passed nodeRows refl z in
-          unfit x d (behind-passed nodeRows (aim ++ last) x ∙ sym (refused-more aim last d) ∙ nine-or-none (ltb 1 wanted) (leb (2 ^ n) fixed) (leb (2 ^ n) ones) (not (onesFixed fixed ones)) d)
-      go (yes z) (yes y) = listed (passed nodeRows refl z) (passed aim refl y) found refl
+          let x = passed nodes refl z in
+          unfit x d (behind-passed nodes (aim ++ last) x ∙ sym (refused-more aim last d) ∙ nine-or-none (ltb 1 wanted) (leb (2 ^ n) fixed) (leb (2 ^ n) ones) (not (onesFixed fixed ones)) d)
+      go (yes z) (yes y) = listed (passed nodes refl z) (passed aim refl y) found refl
 
   -- what the first of the rows that serve is
-  lowest-row : Passed nodeRows → Passed aim → (x : ℕ) (xs : List ℕ) → found ≡ x ∷ xs
+  lowest-row : Passed nodes → Passed aim → (x : ℕ) (xs : List ℕ) → found ≡ x ∷ xs
       → Serves (tableOf n c m) wanted (tableOf n c p) fixed ones x
       × ((other : ℕ) → Serves (tableOf n c m) wanted (tableOf n c p) fixed ones other → x ≤ other)
   lowest-row t y x xs e =
-      let f = nodes-fit t in
+      let f = nodes-fit n used m p order c t in
       let (_, (fixed-lt, _)) = y in
       first-serves (tableOf n c m) wanted (tableOf n c p) fixed ones
       (fit-table (smaller (sound-shape n order c used (f .is-sound))) n p (f .pass-rule))
@@ -170,14 +176,14 @@ module _ (n used m wanted p fixed ones : ℕ) (order c : List ℕ) where
         elim outcome [
           | ahead d e l ↦ absurd (omega (arith, k, number, l))
           | unfit t d e ↦ absurd (omega (arith, k, number, e))
-          | none t y q e ↦ let f = nodes-fit t in (f, aim-fits n wanted fixed ones (f .few) (none-applies aim y), none-listed q)
+          | none t y q e ↦ let f = nodes-fit n used m p order c t in (f, aim-fits n wanted fixed ones (f .few) (none-applies aim y), none-listed q)
           | one y ys t u q e ↦ absurd (omega (arith, k, number, e))
         ]
 
     refused-none : NodesFit n used m p order c × AimFits n wanted fixed ones × NoneServes (tableOf n c m) wanted (tableOf n c p) fixed ones → numberOf r ≡ 15
     refused-none (f, a, g) =
         elim outcome [
-          | ahead d e l ↦ absurd (d (none-applies nodeRows (fit-nodes f)))
+          | ahead d e l ↦ absurd (d (none-applies nodes (fit-nodes n used m p order c f)))
           | unfit t d e ↦ absurd (d (none-applies aim (fits-aim n wanted fixed ones a)))
           | none t y q e ↦ number ∙ e
           | one y ys t u q e ↦ absurd (g y (lowest-row t u y ys q .0))
@@ -193,14 +199,14 @@ module _ (n used m wanted p fixed ones : ℕ) (order c : List ℕ) where
           | unfit t d e ↦ absurd (omega (arith, e, is-accepted a))
           | none t y q e ↦ absurd (omega (arith, e, is-accepted a))
           | one y ys t u q e ↦
-              let f = nodes-fit t in
+              let f = nodes-fit n used m p order c t in
               (f, aim-fits n wanted fixed ones (f .few) (none-applies aim u), (y, lowest-row t u y ys q .0))
         ]
 
     found-some : NodesFit n used m p order c × AimFits n wanted fixed ones × SomeServes → Accepted r
     found-some (f, a, (row, v)) =
         elim outcome [
-          | ahead d e l ↦ absurd (d (none-applies nodeRows (fit-nodes f)))
+          | ahead d e l ↦ absurd (d (none-applies nodes (fit-nodes n used m p order c f)))
           | unfit t d e ↦ absurd (d (none-applies aim (fits-aim n wanted fixed ones a)))
           | none t y q e ↦ absurd (none-listed q row v)
           | one y ys t u q e ↦ zero-accepted (refusal all) values (x .answer) e
@@ -210,7 +216,7 @@ module _ (n used m wanted p fixed ones : ℕ) (order c : List ℕ) where
     is-nine k =
         elim outcome [
           | ahead d e l ↦ absurd (omega (arith, k, number, l))
-          | unfit t d e ↦ (nodes-fit t, λ a. d (none-applies aim (fits-aim n wanted fixed ones a)))
+          | unfit t d e ↦ (nodes-fit n used m p order c t, λ a. d (none-applies aim (fits-aim n wanted fixed ones a)))
           | none t y q e ↦ absurd (omega (arith, k, number, e))
           | one y ys t u q e ↦ absurd (omega (arith, k, number, e))
         ]
@@ -218,14 +224,14 @@ module _ (n used m wanted p fixed ones : ℕ) (order c : List ℕ) where
     nine-is : NodesFit n used m p order c × (AimFits n wanted fixed ones → ⊥) → numberOf r ≡ 9
     nine-is (f, g) =
         elim outcome [
-          | ahead d e l ↦ absurd (d (none-applies nodeRows (fit-nodes f)))
+          | ahead d e l ↦ absurd (d (none-applies nodes (fit-nodes n used m p order c f)))
           | unfit t d e ↦ number ∙ e
           | none t y q e ↦ absurd (g (aim-fits n wanted fixed ones (f .few) (none-applies aim y)))
           | one y ys t u q e ↦ absurd (g (aim-fits n wanted fixed ones (f .few) (none-applies aim u)))
         ]
 
     refuses : numberOf r ≢ 0
-        → (r ≡ refused (numberOf r) (0 ∷ [])) × (numberOf r ≢ 9 → numberOf r ≢ 15 → numberOf r ≡ refusal nodeRows) × (numberOf r ≢ 14)
+        → (r ≡ refused (numberOf r) (0 ∷ [])) × (numberOf r ≢ 9 → numberOf r ≢ 15 → numberOf r ≡ refusal nodes) × (numberOf r ≢ 14)
     refuses d = (
       x .answer ∙ sym (refused-reply (refusal all) values (λ z. d (number ∙ z))) ∙ ap (λ (k : ℕ). refused k (0 ∷ [])) (sym number),
       λ a b.
@@ -248,7 +254,7 @@ module _ (n used m wanted p fixed ones : ℕ) (order c : List ℕ) where
     pub neither : NodesFit n used m p order c → (numberOf r ≢ 6) × (numberOf r ≢ 7)
     neither f =
         elim outcome [
-          | ahead d e l ↦ absurd (d (none-applies nodeRows (fit-nodes f)))
+          | ahead d e l ↦ absurd (d (none-applies nodes (fit-nodes n used m p order c f)))
           | unfit t _ e ↦ (λ k. omega (arith, k, number, e), λ k. omega (arith, k, number, e))
           | none t y q e ↦ (λ k. omega (arith, k, number, e), λ k. omega (arith, k, number, e))
           | one y ys t u q e ↦ (λ k. omega (arith, k, number, e), λ k. omega (arith, k, number, e))
@@ -264,7 +270,7 @@ module _ (n used m wanted p fixed ones : ℕ) (order c : List ℕ) where
         let same : row ≡ y = first-same (sym g ∙ h) in
         let there : row < 2 ^ n = omega (arith, same, v .there, length-table n c m) in
         let allowed : getD (tableOf n c p) row 0 ≡ 1 = ap (λ (i : ℕ). getD (tableOf n c p) i 0) same ∙ v .allowed in
-        let (t₁, (t₂, (t₃, (t₄, (t₅, (t₆, _)))))) = fit-nodes f in
+        let (t₁, (t₂, (t₃, (t₄, (t₅, (t₆, _)))))) = fit-nodes n used m p order c f in
         let taken : refusal (walkRows n order c used m (some p) row) ≡ 0 =
         none-applies (walkRows n order c used m (some p) row)
         (t₁, (t₂, (t₃, (t₄, (t₅, (t₆, (lt-leb (2 ^ n) row there, (ne-eqb (getD (tableOf n c p) row 0) 0 (λ z. omega (arith, z, allowed)), tt)))))))) in
@@ -286,9 +292,9 @@ by-tables : (n used m wanted p fixed ones : ℕ) (order c : List ℕ) {r : Reply
 by-tables n used m wanted p fixed ones order c x f t u et eu =
     x .answer
     ∙ ap (λ (k : ℕ). reply k (getD (servingIn n c m wanted p fixed ones) 0 0 ∷ []))
-    (behind-passed (nodeRows n used m wanted p fixed ones order c)
+    (behind-passed (nodeRows n used m p order c)
     (aimRows n wanted fixed ones ++ (noSuchRow (servingIn n c m wanted p fixed ones) ∷ []))
-    (fit-nodes n used m wanted p fixed ones order c f))
+    (fit-nodes n used m p order c f))
     ∙ rw (et, eu)
 
 pub provocation : Provocation

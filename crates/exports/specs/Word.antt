@@ -15,7 +15,8 @@ word number first second third = number + first * 256 + second * 16777216 + thir
 abbrev pub Codes : (Reply → Type 0) → ℕ → Type 0
 Codes P r = (a : Reply) × P a × (r ≡ word (numberOf a) (valueAt a 0) (valueAt a 1) (valueAt a 2))
 
--- the ten bytes that a call is lent for the order: the reply's values behind the first so many, and as they were where it is refused
+-- the ten bytes that a call is lent for the order, or replay's ten numbers of the flags: the reply's values behind the first so many, and as they were where it
+-- is refused
 abbrev pub orderAfter : ℕ → Reply → List ℕ → List ℕ
 orderAfter many (accepted values) old = drop many values
 orderAfter many (refused k values) old = old
@@ -24,7 +25,7 @@ orderAfter many (refused k values) old = old
 abbrev pub CodesOrder : (Reply → Type 0) → List ℕ → ℕ → List ℕ → Type 0
 CodesOrder P old r places = (a : Reply) × P a × (r ≡ word (numberOf a) (valueAt a 0) (valueAt a 1) 0) × (places ≡ orderAfter 2 a old)
 
--- and so read's
+-- and so read's, and replay's numbers of the flags
 abbrev pub CodesLoaded : (Reply → Type 0) → List ℕ → ℕ → List ℕ → Type 0
 CodesLoaded P old r places = (a : Reply) × P a × (r ≡ word (numberOf a) (valueAt a 0) (valueAt a 1) (valueAt a 2)) × (places ≡ orderAfter 3 a old)
 

@@ -1,3 +1,4 @@
+use tallying::Tally;
 ghost use mathlib.Core.Path.{_≡_};
 ghost use Rattle.exports.specs.Word.{word};
 
@@ -27,4 +28,11 @@ pub fn loaded(n: u8, records: u16, root: u16) -> u64
     ensures { λ r. ⌜ r ≡ word 0 n records root ⌝ }
 {
     coded(0, n as u16, records, root)
+}
+
+// What a replay hands back, but for how often each flag was asked.
+pub fn tallied(refused: u8, tally: Tally) -> u64
+    ensures { λ r. ⌜ r ≡ word refused (tally .played) (tally .yes) (tally .changes) ⌝ }
+{
+    coded(refused, tally.played, tally.yes, tally.changes)
 }

@@ -9,7 +9,7 @@ use Rattle.rule.specs.History.{Call, Meets}
 use Rattle.store.specs.State.{stateOf}
 use Rattle.asking.specs.declared.answers.Reached.{Reached}
 use Rattle.asking.specs.declared.requests.Request.{Request}
-use Rattle.asking.specs.Answer.{answerReply, answerKind}
+use Rattle.asking.specs.Answer.{reachedReply, answerKind, Beside}
 use Rattle.asking.specs.Request.{askedBy, part, requestKind}
 
 -- the call as it was made: it reached r, and left cells d and, of bytes that were b, b′
@@ -18,7 +18,7 @@ callOf q given b r d b′ =
     record {
       asked = askedBy q given;
       lent = take (part q) b;
-      answer = answerReply (r .answer);
+      answer = reachedReply r;
       state = stateOf (r .store);
       cells = d;
       bytes = take (part q) b′;
@@ -30,5 +30,7 @@ pub record Steps (q : Request) (s given : State) (c b : List ℕ) (r : Reached) 
   pub met : Meets s c (callOf q given b r d b′)
   -- its answer is of the kind that belongs to it
   pub kind : answerKind (r .answer) ≡ requestKind q
+  -- with no tally beside it but a log's
+  pub beside : Beside (requestKind q) (r .tally)
   -- bytes behind those that it was lent are as found
   pub behind : drop (part q) b′ ≡ drop (part q) b

@@ -1,26 +1,34 @@
--- Answers in words, four to a call: the refusal's number, 0 where the call is accepted, and the values that it hands back, of which no call has more than three,
--- 0 where there is none.
+-- Answers in words, fourteen to a call: the refusal's number, 0 where the call is accepted, and the values that it hands back, of which no call has more than
+-- the thirteen of a log's tally, 0 where there is none.
 -- Assumes nothing.
 use mathlib.Core.Path.{_≡_}
-use mathlib.Core.List.{List, [], _∷_, _++_}
+use mathlib.Core.List.{List, [], _∷_, _++_, map}
 use Prim.Native.Nat.{ℕ, _*_}
 use lib.ListN.{getD, take, drop}
-use Rattle.rule.specs.Results.{Query, tabulating, walking, provoking}
+use Rattle.rule.specs.Log.{tallyNumbers}
+use Rattle.rule.specs.Results.{Query, tabulating, walking, provoking, replaying}
 use Rattle.rule.specs.Reply.{Reply, reply, numberOf, valueAt}
 use Rattle.rule.specs.History.{Asked, open-call, constant-call, making-call, query-call, Call}
 
 -- the words of one answer
 abbrev pub noteWords : ℕ
-noteWords = 4
+noteWords = 14
 
 -- ---- from answers to words
 
-abbrev pub noteOf : Reply → List ℕ
-noteOf r = numberOf r ∷ valueAt r 0 ∷ valueAt r 1 ∷ valueAt r 2 ∷ []
+-- the places of the values
+abbrev pub valuePlaces : List ℕ
+valuePlaces = 0 ∷ 1 ∷ 2 ∷ 3 ∷ 4 ∷ 5 ∷ 6 ∷ 7 ∷ 8 ∷ 9 ∷ 10 ∷ 11 ∷ 12 ∷ []
 
--- four words tell a reply: its number and its first three values
-abbrev pub Tells : ℕ → ℕ → ℕ → ℕ → Reply → Type 0
-Tells number first second third r = (number ≡ numberOf r) × (first ≡ valueAt r 0) × (second ≡ valueAt r 1) × (third ≡ valueAt r 2)
+abbrev pub firstValues : Reply → List ℕ
+firstValues r = map (valueAt r) valuePlaces
+
+abbrev pub noteOf : Reply → List ℕ
+noteOf r = numberOf r ∷ firstValues r
+
+-- words tell a reply: its number and its first values
+abbrev pub Tells : ℕ → List ℕ → Reply → Type 0
+Tells number values r = (number ≡ numberOf r) × (values ≡ firstValues r)
 
 -- the answers of a list of calls, one behind the other
 abbrev pub notes : List Call → List ℕ
@@ -38,6 +46,7 @@ abbrev pub queryValues : Query → ℕ
 queryValues (tabulating m) = 0
 queryValues (walking m pass row) = 3
 queryValues (provoking m wanted p fixed ones) = 1
+queryValues (replaying m pass) = tallyNumbers
 
 abbrev pub askedValues : Asked → ℕ
 askedValues (open-call given) = 0

@@ -4,49 +4,50 @@ use rule::Done;
 use rule::Made;
 use rule::Said;
 use rule::Sought;
+use tallying::Tally;
 ghost use mathlib.Core.Path.{_≡_};
+ghost use mathlib.Core.List.{_∷_};
 ghost use Prim.Native.Nat.{_+_, _*_, _≤_};
-ghost use lib.ListN.{length};
+ghost use lib.ListN.{length, replicate};
 ghost use lib.Seq.{sets};
 ghost use Rattle.rule.specs.Answers.{doneReply, madeReply, saidReply, soughtReply};
+ghost use Rattle.tallying.specs.Tally.{talliedReply};
 ghost use Rattle.asking.specs.Answer.{answerReply};
 ghost use Rattle.noting.specs.Noted.{noteWords, noteOf, Tells};
 
+// The values that a call hands back at most: those of a tally.
+const VALUES: usize = 13;
+
 // The words of one answer.
-pub const NOTE: usize = 4;
+pub const NOTE: usize = 1 + VALUES;
 
 // The refusal's number, 0 where the call is accepted, and the values, 0 where there are none.
 struct Words {
     number: u16,
-    first: u16,
-    second: u16,
-    third: u16,
+    values: [u16; VALUES],
 }
 
 fn refused(k: u8) -> Words
-    ensures { λ r. ⌜ (r .number ≡ k) × (r .first ≡ 0) × (r .second ≡ 0) × (r .third ≡ 0) ⌝ }
+    ensures { λ r. ⌜ (r .number ≡ k) × (r .values ≡ replicate 13 0) ⌝ }
 {
     Words {
         number: k as u16,
-        first: 0,
-        second: 0,
-        third: 0,
+        values: [0u16; VALUES],
     }
 }
 
 fn accepted(first: u16, second: u16, third: u16) -> Words
-    ensures { λ r. ⌜ (r .number ≡ 0) × (r .first ≡ first) × (r .second ≡ second) × (r .third ≡ third) ⌝ }
+    ensures { λ r. ⌜ (r .number ≡ 0) × (r .values ≡ first ∷ second ∷ third ∷ replicate 10 0) ⌝ }
 {
-    Words {
-        number: 0,
-        first,
-        second,
-        third,
-    }
+    let mut values = [0u16; VALUES];
+    values[0] = first;
+    values[1] = second;
+    values[2] = third;
+    Words { number: 0, values }
 }
 
 fn done(answer: Done) -> Words
-    ensures { λ r. ⌜ Tells (r .number) (r .first) (r .second) (r .third) (doneReply answer) ⌝ }
+    ensures { λ r. ⌜ Tells (r .number) (r .values) (doneReply answer) ⌝ }
 {
     match answer {
         Done::Accepted => accepted(0, 0, 0),
@@ -55,7 +56,7 @@ fn done(answer: Done) -> Words
 }
 
 fn made(answer: Made) -> Words
-    ensures { λ r. ⌜ Tells (r .number) (r .first) (r .second) (r .third) (madeReply answer) ⌝ }
+    ensures { λ r. ⌜ Tells (r .number) (r .values) (madeReply answer) ⌝ }
 {
     match answer {
         Made::Rule(node) => accepted(node.number, 0, 0),
@@ -64,7 +65,7 @@ fn made(answer: Made) -> Words
 }
 
 fn said(answer: Said) -> Words
-    ensures { λ r. ⌜ Tells (r .number) (r .first) (r .second) (r .third) (saidReply answer) ⌝ }
+    ensures { λ r. ⌜ Tells (r .number) (r .values) (saidReply answer) ⌝ }
 {
     match answer {
         Said::Answer {
@@ -77,7 +78,7 @@ fn said(answer: Said) -> Words
 }
 
 fn sought(answer: Sought) -> Words
-    ensures { λ r. ⌜ Tells (r .number) (r .first) (r .second) (r .third) (soughtReply answer) ⌝ }
+    ensures { λ r. ⌜ Tells (r .number) (r .values) (soughtReply answer) ⌝ }
 {
     match answer {
         Sought::Row(row) => accepted(row, 0, 0),
@@ -85,26 +86,67 @@ fn sought(answer: Sought) -> Words
     }
 }
 
-fn noted(answer: Answer) -> Words
-    ensures { λ r. ⌜ Tells (r .number) (r .first) (r .second) (r .third) (answerReply answer) ⌝ }
+fn tallied(tally: Tally, answer: Done) -> Words
+    ensures { λ r. ⌜ Tells (r .number) (r .values) (talliedReply tally answer) ⌝ }
+{
+    let asked = tally.asked;
+    let values = [
+        tally.played,
+        tally.yes,
+        tally.changes,
+        asked[0],
+        asked[1],
+        asked[2],
+        asked[3],
+        asked[4],
+        asked[5],
+        asked[6],
+        asked[7],
+        asked[8],
+        asked[9],
+    ];
+    match answer {
+        Done::Accepted => Words { number: 0, values },
+        Done::Refused(k) => Words {
+            number: k as u16,
+            values,
+        },
+    }
+}
+
+fn noted(answer: Answer, tally: Tally) -> Words
+    ensures { λ r. ⌜ Tells (r .number) (r .values) (answerReply tally answer) ⌝ }
 {
     match answer {
         Answer::Done(a) => done(a),
         Answer::Made(a) => made(a),
         Answer::Said(a) => said(a),
         Answer::Sought(a) => sought(a),
+        Answer::Tallied(a) => tallied(tally, a),
     }
 }
 
-// Notes the answer of call k in its words.
-pub fn note(answers: &mut [u16], k: usize, answer: Answer)
-    requires { ⌜ k * noteWords + noteWords ≤ length (now answers) ⌝ }
-    ensures { λ r. ⌜ now (answers .exit) ≡ sets (now (answers .entry)) (k * noteWords) (noteOf (answerReply answer)) ⌝ }
+// Writes the values, one behind the other.
+fn put_values(answers: &mut [u16], at: usize, values: [u16; VALUES])
+    requires { ⌜ at + 13 ≤ length (now answers) ⌝ }
+    ensures { λ _. ⌜ now (answers .exit) ≡ sets (now (answers .entry)) at values ⌝ }
 {
-    let words = noted(answer);
+    let mut i = 0;
+    while i < VALUES {
+        let to = at + i;
+        answers[to] = values[i];
+        i += 1;
+    }
+}
+
+// Notes the answer of call k, with the tally that stands beside it, in its words.
+pub fn note(answers: &mut [u16], k: usize, answer: Answer, tally: Tally)
+    requires { ⌜ k * noteWords + noteWords ≤ length (now answers) ⌝ }
+    ensures { λ r. ⌜ now (answers .exit) ≡ sets (now (answers .entry)) (k * noteWords) (noteOf (answerReply tally answer)) ⌝ }
+{
+    let words = noted(answer, tally);
     let to = k * NOTE;
+    let values = words.values;
     answers[to] = words.number;
-    answers[to + 1] = words.first;
-    answers[to + 2] = words.second;
-    answers[to + 3] = words.third;
+    put_values(answers, to + 1, values);
 }

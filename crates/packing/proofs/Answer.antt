@@ -2,7 +2,7 @@
 -- Assumes nothing.
 use mathlib.Core.Path.{_≡_, refl, sym, ap, ap₂, _∙_}
 use mathlib.Core.Bool.{Bool, true, false, not, _&&_}
-use mathlib.Core.List.{List, [], _∷_, _++_, map}
+use mathlib.Core.List.{List, [], _∷_, _++_}
 use Prim.Native.Nat.{ℕ, _^_, _≤_, _<_}
 use native.Mathlib.Nat.{sub-zero}
 use native.Mathlib.Omega.{arith}
@@ -18,7 +18,7 @@ use Rattle.rule.specs.Reply.{accepted, refused, reply, leaves}
 use Rattle.rule.specs.Results.{rootBy}
 use Rattle.rule.specs.Sequence.{drawing}
 use Rattle.rule.specs.Calls.{Build, Pack, workspaceAfter}
-use Rattle.theory.proofs.Orders.{in-places-length, packed-flags, packed-fit}
+use Rattle.theory.proofs.Orders.{zero-places, packed-flags, packed-fit}
 use Rattle.theory.proofs.Tests.{and-split}
 use Rattle.theory.proofs.Refused.{row-passed, refused-more, passed-more, refused-reply, refused-kept, refused-is, accepted-is}
 use Rattle.cells.specs.Record.{clearFrom}
@@ -78,15 +78,6 @@ refusal-small ((false, k) ∷ rows) e = refusal-small rows (and-split (ltb k 10)
 
 workspace-kept : (k : ℕ) (w : List ℕ) → (k ≡ 0 → ⊥) → k < 10 → w ≡ workspaceAfter k w
 workspace-kept k w d h = rw (ne-eqb k 0 d, ne-eqb k 10 (λ q. omega arith))
-
--- ---- the zeros of a refusal
-
-zeros : (l : List ℕ) → map {B = ℕ} (λ v. 0) l ≡ replicate (length l) 0
-zeros [] = refl
-zeros (x ∷ l) = ap {B = List ℕ} (λ m. 0 ∷ m) (zeros l)
-
-zero-places : (o : List ℕ) → map {B = ℕ} (λ v. 0) (inPlaces o) ≡ replicate 10 0
-zero-places o = zeros (inPlaces o) ∙ ap (λ (k : ℕ). replicate {A = ℕ} k 0) (in-places-length o)
 
 -- ---- the answer
 

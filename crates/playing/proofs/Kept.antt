@@ -1,4 +1,4 @@
--- Demand 3 of the code. `Plays` is the contract of `play`, which stands on those of the nine calls of the store: each is its own relation of crate rule
+-- Demand 3 of the code. `Plays` is the contract of `play`, which stands on those of the ten calls of the store: each is its own relation of crate rule
 -- (Calls.antt), or `step` is not proved.
 -- Assumes nothing.
 use mathlib.Core.Path.{_≡_, sym, ap, subst, _∙_}

@@ -11,7 +11,7 @@ use Rattle.rule.specs.History.{Call, Meets, Calls}
 use Rattle.store.specs.State.{stateOf}
 use Rattle.asking.specs.declared.answers.Reached.{Reached}
 use Rattle.asking.specs.declared.requests.Request.{Request}
-use Rattle.asking.specs.Answer.{answerReply}
+use Rattle.asking.specs.Answer.{reachedReply}
 use Rattle.asking.specs.Request.{askedBy, part}
 use Rattle.history.specs.Step.{callOf, Steps}
 use Rattle.coding.specs.Coded.{callWords, requestAt, givenAt, askedAt}
@@ -62,7 +62,7 @@ drop-taken (suc k) (x ∷ b) = drop-taken k b
 
 -- a call by its request, which the words code, and its answer noted
 pub turn-made : {w : List ℕ} {k : ℕ} {q : Request} {s g : State} {r : Reached} {c b a d b′ a′ : List ℕ} → q ≡ requestAt w (k * callWords)
-    → g ≡ givenAt w (k * callWords) → Steps q s g c b r d b′ → length b′ ≡ length b → a′ ≡ sets a (k * noteWords) (noteOf (answerReply (r .answer)))
+    → g ≡ givenAt w (k * callWords) → Steps q s g c b r d b′ → length b′ ≡ length b → a′ ≡ sets a (k * noteWords) (noteOf (reachedReply r))
     → Turns w k s c b a (stateOf (r .store)) d b′ a′
 turn-made {w} {k} {q} {s} {g} {r} {c} {b} {a} {d} {b′} {a′} qe ge step same noted =
     let asks : askedBy q g ≡ askedAt w k = rw (qe, ge) in

@@ -1,19 +1,24 @@
 -- What the book is fed of a run can be read off the words that code its calls and those that its answers stand in.
 -- Assumes nothing.
 use mathlib.Core.Path.{_≡_, refl, sym, ap, subst, _∙_}
-use mathlib.Core.List.{List, [], _∷_, _++_}
+use mathlib.Core.List.{List, [], _∷_, _++_, map}
 use Prim.Native.Nat.{ℕ, zero, suc, _+_, _*_}
 use native.Mathlib.Omega.{arith}
-use lib.ListN.{length, take, drop}
-use lib.Seq.{drop-drop}
+use lib.ListN.{length, getD, take, drop}
+use lib.Seq.{drop-drop, ext-getD}
+use Rattle.rule.specs.Bits.{from, below}
 use Rattle.rule.specs.Walk.{walkValues}
-use Rattle.rule.specs.Results.{madeIn, madeNode, tabulating, walking, provoking, answered}
-use Rattle.rule.specs.Refusals.{refusal, openRows, constantRows, makingRows, tabulateRows, walkRows, provokeRows}
-use Rattle.rule.specs.Reply.{Reply, accepted, reply}
+use Rattle.rule.specs.Log.{snapshots, Played, playedIn, timesAsked, tallyNumbers, tallyOf}
+use Rattle.rule.specs.Results.{madeIn, madeNode, tabulating, walking, provoking, replaying, answered}
+use Rattle.rule.specs.Refusals.{refusal, openRows, constantRows, makingRows, tabulateRows, walkRows, provokeRows, replayRows}
+use Rattle.rule.specs.Reply.{Reply, accepted, refused, reply}
 use Rattle.rule.specs.Calls.{State}
 use Rattle.rule.specs.History.{Asked, open-call, constant-call, making-call, query-call, Call, MeetsBy, Calls, Fed, fedOf, feed}
+use Rattle.theory.proofs.Bits.{map-below, length-below}
+use Rattle.theory.proofs.Orders.{in-places-length}
+use Rattle.theory.proofs.Log.{zero-tally}
 use Rattle.coding.specs.Coded.{askedAt}
-use Rattle.noting.specs.Noted.{noteWords, noteOf, notes, noteAt, replyBy}
+use Rattle.noting.specs.Noted.{noteWords, valuePlaces, noteOf, notes, noteAt, replyBy}
 use Rattle.playing.specs.Played.{CodedFrom, Plays}
 use Rattle.playing.specs.Book.{fedAt, fedFrom, fedPlayed}
 
@@ -24,6 +29,16 @@ told : (q : Asked) (values : List ℕ) (k : ℕ) {r : Reply} → replyBy q (note
     → ((i : ℕ) → replyBy q (noteOf (reply (suc i) values)) ≡ reply (suc i) values) → r ≡ reply k values → r ≡ replyBy q (noteOf r)
 told q values zero a b e = subst (λ (z : Reply). z ≡ replyBy q (noteOf z)) (sym e) (sym a)
 told q values (suc k) a b e = subst (λ (z : Reply). z ≡ replyBy q (noteOf z)) (sym e) (sym (b k))
+
+-- thirteen values are told by the words of a note
+all-values : (l : List ℕ) → length l ≡ tallyNumbers → map (λ i. getD l i 0) valuePlaces ≡ l
+unfolding from
+all-values l e =
+    ext-getD 0 (map (λ i. getD l i 0) (below 13)) l (length-below (λ i. getD l i 0) 13 ∙ sym e)
+    (λ i h. map-below (λ i. getD l i 0) 13 i 0 (omega (arith, h, length-below (λ i. getD l i 0) 13)))
+
+tally-length : (n : ℕ) (ps : List Played) → length (tallyOf n ps) ≡ tallyNumbers
+tally-length n ps = omega (arith, in-places-length (map (timesAsked ps) (below n)))
 
 -- so it is of the answer of a call that met its contract
 reply-read : (s : State) (c : List ℕ) (q : Asked) (x : Call) → MeetsBy q s c x → x .answer ≡ replyBy q (noteOf (x .answer))
@@ -39,7 +54,13 @@ reply-read s c (query-call (tabulating m)) x (y, _) =
 reply-read s c (query-call (walking m pass row)) x (y, _) =
     told (query-call (walking m pass row)) (walkValues c m row) (refusal (walkRows (s .n) (s .places) c (s .used) m pass row)) refl (λ i. refl) (y .asks .answer)
 reply-read s c (query-call (provoking m wanted p fixed ones)) x (y, _) =
-    told (query-call (provoking m wanted p fixed ones)) (answered (s .n) c (provoking m wanted p fixed ones)) (refusal (provokeRows (s .n) (s .places) c (s .used) m wanted p fixed ones)) refl (λ i. refl) (y .asks .answer)
+    told (query-call (provoking m wanted p fixed ones)) (answered (s .n) c (provoking m wanted p fixed ones) []) (refusal (provokeRows (s .n) (s .places) c (s .used) m wanted p fixed ones)) refl (λ i. refl) (y .asks .answer)
+reply-read s c (query-call (replaying m pass)) x (y, _) =
+    let values = tallyOf (s .n) (playedIn (s .n) c m (snapshots (x .lent))) in
+    let many : length values ≡ tallyNumbers = tally-length (s .n) (playedIn (s .n) c m (snapshots (x .lent))) in
+    told (query-call (replaying m pass)) values (refusal (replayRows (s .n) (s .places) c (s .used) m pass (x .lent))) (ap accepted (all-values values many))
+    (λ i. ap (refused (suc i)) (sym (zero-tally (s .n) (playedIn (s .n) c m (snapshots (x .lent))))))
+    (y .asks .answer)
 
 -- ---- the calls of a list
 

@@ -38,7 +38,8 @@ fn turn(
     let given = given_at(words, at);
     let reached = step(store, given, request, cells, bytes);
     let answer = reached.answer;
-    note(answers, k, answer);
+    let tally = reached.tally;
+    note(answers, k, answer, tally);
     reached.store
 }
 

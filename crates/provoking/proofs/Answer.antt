@@ -38,7 +38,7 @@ module _ (n : ℕ) (o c : List ℕ) (used m wanted p fixed ones : ℕ) where
   last = noSuchRow (servingIn n c m wanted p fixed ones) ∷ []
 
   abbrev values : List ℕ
-  values = answered n c (provoking m wanted p fixed ones)
+  values = answered n c (provoking m wanted p fixed ones) []
 
   -- refused under a number
   refused-by : {k : ℕ} → k ≡ refusal (provokeRows n o c used m wanted p fixed ones) → (k ≡ 0 → ⊥) → Provokes n o c used m wanted p fixed ones (refused k (0 ∷ []))

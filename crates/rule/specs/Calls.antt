@@ -1,7 +1,7 @@
 -- Each call's outcome: a relation between what it is given and what it leaves, accepted or refused (document 01). A call's contract is exactly its
 -- relation here, at its answer's reply; the file calls are in Files.antt, print in Sheet.antt. What the papers leave free is the sequence of a store's
--- records, with the node numbers that follow from it. Buffers that are lent to be read alone (a table, the cells of check, walk, tabulate, provoke, write and
--- print) stay as they are: the language sees to it.
+-- records, with the node numbers that follow from it. Buffers that are lent to be read alone (a table, a log, the cells of check, walk, tabulate, provoke,
+-- replay, write and print) stay as they are: the language sees to it.
 -- Assumes nothing.
 use mathlib.Core.Path.{_≡_}
 use mathlib.Core.Bool.{true, cond, _||_}
@@ -17,7 +17,7 @@ use Rattle.rule.specs.Cells.{width}
 use Rattle.rule.specs.Walk.{tableOf}
 use Rattle.rule.specs.Sound.{sound}
 use Rattle.rule.specs.Sequence.{drawing}
-use Rattle.rule.specs.Results.{Making, flag, join, choose, fix, madeIn, lacking, needed, rootBy, madeNode, Query, tabulating, walking, provoking, answered}
+use Rattle.rule.specs.Results.{Making, flag, join, choose, fix, madeIn, lacking, needed, rootBy, madeNode, Query, tabulating, walking, provoking, replaying, answered}
 use Rattle.rule.specs.Refusals.{refusal, buildRows, checkRows, queryRows, openRows, constantRows, makingRows, packRows}
 use Rattle.rule.specs.Reply.{Reply, reply, leaves}
 
@@ -37,10 +37,11 @@ abbrev pub lentAfter : ℕ → ℕ → List ℕ → Query → List ℕ → List 
 lentAfter k n c (tabulating m) lent = leaves k (tableOf n c m) lent
 lentAfter k n c (walking m pass row) lent = lent
 lentAfter k n c (provoking m wanted p fixed ones) lent = lent
+lentAfter k n c (replaying m pass) log = log
 
 -- a call that makes no rule: "these .. take any node of sound cells"
 pub record Asks (n : ℕ) (order c : List ℕ) (used : ℕ) (q : Query) (lent : List ℕ) (r : Reply) (after : List ℕ) : Type 0 where
-  pub answer : r ≡ reply (refusal (queryRows n order c used q lent)) (answered n c q)
+  pub answer : r ≡ reply (refusal (queryRows n order c used q lent)) (answered n c q lent)
   pub bytes-are : after ≡ lentAfter (refusal (queryRows n order c used q lent)) n c q lent
 
 -- "A walk .. hands back the answer", and "beside its answer, a ten-bit set of the flags asked and their number" (request 2): for one row, which
@@ -51,6 +52,10 @@ Walks n order c used m pass row r = Asks n order c used (walking m pass row) [] 
 -- "Hand back the lowest row that the pass rule allows, that has the fixed values and gives the wanted answer" (request 8); it is lent no bytes
 abbrev pub Provokes : ℕ → List ℕ → List ℕ → ℕ → ℕ → ℕ → ℕ → ℕ → ℕ → Reply → Type 0
 Provokes n order c used m wanted p fixed ones r = Asks n order c used (provoking m wanted p fixed ones) [] r []
+
+-- "Playing a rig log through a rule" (request 9); the log is left as it is
+abbrev pub Replays : ℕ → List ℕ → List ℕ → ℕ → ℕ → Option ℕ → List ℕ → Reply → Type 0
+Replays n order c used m pass log r = Asks n order c used (replaying m pass) log r log
 
 -- "tabulate a rule into lent bytes"
 abbrev pub Tabulates : ℕ → List ℕ → List ℕ → ℕ → ℕ → List ℕ → Reply → List ℕ → Type 0
@@ -78,6 +83,9 @@ Walk s c m pass row r s′ = Ask s c (walking m pass row) [] r s′ []
 
 abbrev pub Provoke : State → List ℕ → ℕ → ℕ → ℕ → ℕ → ℕ → Reply → State → Type 0
 Provoke s c m wanted p fixed ones r s′ = Ask s c (provoking m wanted p fixed ones) [] r s′ []
+
+abbrev pub Replay : State → List ℕ → ℕ → Option ℕ → List ℕ → Reply → State → Type 0
+Replay s c m pass log r s′ = Ask s c (replaying m pass) log r s′ log
 
 abbrev pub Tabulate : State → List ℕ → ℕ → List ℕ → Reply → State → List ℕ → Type 0
 Tabulate s c m bytes r s′ after = Ask s c (tabulating m) bytes r s′ after

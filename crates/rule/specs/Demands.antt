@@ -1,21 +1,21 @@
--- Demands 2 and 3, each as one statement over the outcomes of Calls.antt, Files.antt and Sheet.antt, and seven more: what holds of the set and the number that
--- a walk hands back, which walks a pass rule refuses, which row provoke hands back, which order pack takes of several, in which sequence records stand, that
--- what the writer writes the reader reads, and that printed pages give back every record. (Demand 1 is the contracts themselves: no call has a condition, each
--- gives its number and every lent buffer, and the check proves that it reads, writes and ends within what it was given.)
+-- Demands 2 and 3, each as one statement over the outcomes of Calls.antt, Files.antt and Sheet.antt, and eight more: what holds of the set and the number that
+-- a walk hands back, which walks a pass rule refuses, which row provoke hands back, what the tally of a log counts, which order pack takes of several, in which
+-- sequence records stand, that what the writer writes the reader reads, and that printed pages give back every record. (Demand 1 is the contracts themselves: no
+-- call has a condition, each gives its number and every lent buffer, and the check proves that it reads, writes and ends within what it was given.)
 -- Assumes nothing.
 use mathlib.Core.Path.{_≡_}
 use mathlib.Core.Logic.{_≢_, _↔_}
-use mathlib.Core.Bool.{true}
-use mathlib.Core.List.{List, [], _∷_, map, List·Memᴰ}
-use mathlib.Core.Option.{Option, none, some}
-use Prim.Native.Nat.{ℕ, _+_, _*_, _^_, _≤_, _<_}
+use mathlib.Core.Bool.{Bool, true, false}
+use mathlib.Core.List.{List, [], _∷_, map, flatMap, List·Memᴰ}
+use mathlib.Core.Option.{Option, none, some, Option·getD}
+use Prim.Native.Nat.{ℕ, _+_, _*_, _%_, _^_, _≤_, _<_}
 use lib.Dec.{eqb}
-use lib.ListN.{length, getD, take}
+use lib.ListN.{length, getD, take, replicate}
 use Rattle.rule.specs.Bits.{bit, below, sumOver}
 use Rattle.rule.specs.Tests.{each}
 use Rattle.rule.specs.Table.{fitLength, fitRows, depends, restrict}
 use Rattle.rule.specs.Level.{levelCount, size, askedTotal, rowsAsking}
-use Rattle.rule.specs.Order.{places, flags, fitOrder, askedBefore, Lex}
+use Rattle.rule.specs.Order.{places, flags, fitOrder, rising, askedBefore, Lex}
 use Rattle.rule.specs.Sets.{setSize}
 use Rattle.rule.specs.Cells.{width, fitCells, room, flagAt, lowAt, highAt, RecordValues, laidIn, recordIn, recordsIn}
 use Rattle.rule.specs.Walk.{recordsPassed, flagsAsked, walkValues, tableOf, walksAsking, askedInAll}
@@ -23,12 +23,17 @@ use Rattle.rule.specs.Sound.{sound}
 use Rattle.rule.specs.Diagram.{diagram, asking}
 use Rattle.rule.specs.Sequence.{inSequence, drawing}
 use Rattle.rule.specs.Reduced.{DrawnAs}
+use Rattle.rule.specs.Pass.{saysNo}
 use Rattle.rule.specs.Provoke.{Serves, NoneServes}
-use Rattle.rule.specs.Results.{Making, madeIn, needed, rootBy, Query, tabulating, walking, provoking}
-use Rattle.rule.specs.Refusals.{refusal, flagCount, orderPlaces, cells, records, node, rowArgument}
-use Rattle.rule.specs.Reply.{Reply, accepted, refused, reply, numberOf, Accepted}
-use Rattle.rule.specs.Calls.{State, Build, Check, Walks, Provokes, Tabulates, Tabulate, Walk, Provoke, Make, Pack}
+use Rattle.rule.specs.Log.{Played, snapshots, playedBy, tallyNumbers, tallyOf}
+use Rattle.rule.specs.Results.{Making, madeIn, needed, rootBy, Query, tabulating, walking, provoking, replaying}
+use Rattle.rule.specs.Refusals.{Row, refusal, flagCount, orderPlaces, cells, records, node, rowArgument, mostLog, logLength, passRows}
+use Rattle.rule.specs.Reply.{Reply, accepted, refused, reply, numberOf, valueAt, Accepted}
+use Rattle.rule.specs.Calls.{State, Build, Check, Walks, Provokes, Replays, Tabulates, Tabulate, Walk, Provoke, Replay, Make, Pack}
 use Rattle.rule.specs.Files.{bytesOf, reading, recordsFiled, labelOf, Reads, Writes}
+use Rattle.rule.specs.Text.{readLine}
+use Rattle.rule.specs.Listing.{flagsOf, rowsOf, lineRows, wordLine}
+use Rattle.rule.specs.RigTally.{printedTally, rigTally}
 use Rattle.rule.specs.Sheet.{lineLength, pageLines, pageBytes, pagesFor, sheetLines, sheet, Prints, linesIn, readPages}
 use Rattle.rule.specs.History.{Asked, open-call, constant-call, making-call, query-call, Call, Calls, Fed, feed, Opens, BeginsOpen, Book, inBook, enter, bookOf}
 
@@ -149,6 +154,32 @@ pub record ProvokedBy (rule : List ℕ) (wanted : ℕ) (pass : List ℕ) (fixed 
 abbrev pub ProvokedInBook : List ℕ → ℕ → List ℕ → ℕ → ℕ → Reply → Type 0
 ProvokedInBook t wanted u fixed ones r = ProvokedBy t wanted u fixed ones r × (numberOf r ≢ 6) × (numberOf r ≢ 7)
 
+-- "a row for which it says no can't happen": by the pass rule's table, if there is one
+abbrev pub forbidden : Option (List ℕ) → ℕ → Bool
+forbidden none row = false
+forbidden (some t) row = saysNo t row
+
+-- what is tested of a log (request 9), by the pass rule's table
+abbrev pub logRowsBy : ℕ → Option (List ℕ) → List ℕ → List Row
+logRowsBy n pass log = logLength log ∷ flatMap (λ row. rowArgument n row ∷ (forbidden pass row, 14) ∷ []) (snapshots log)
+
+-- the tally of a log by a rule's table alone and the order that the rule is drawn in
+abbrev pub tallyBy : ℕ → List ℕ → List ℕ → List ℕ → List ℕ
+tallyBy n order t log = tallyOf n (playedBy (flags n order) t (snapshots log))
+
+-- the reply to a log by the tables of the rule and of its pass rule, if it has one, past 1 to 7
+abbrev pub ReplayedBy : ℕ → List ℕ → List ℕ → Option (List ℕ) → List ℕ → Reply → Type 0
+ReplayedBy n order t pass log r = r ≡ reply (refusal (logRowsBy n pass log)) (tallyBy n order t log)
+
+-- the reply where both rules are in the book, by its tables: past 1 and 4, which a refused open may have left in the state, there are no tests but the log's
+abbrev pub ReplayedInBook : ℕ → List ℕ → List ℕ → Option (List ℕ) → List ℕ → Reply → Type 0
+ReplayedInBook n order t pass log r = r ≡ reply (refusal (flagCount n ∷ orderPlaces n order ∷ logRowsBy n pass log)) (tallyBy n order t log)
+
+-- the table that the book has of a pass rule, if one is given
+abbrev pub PassInBook : Book → Option ℕ → Option (List ℕ) → Type 0
+PassInBook b none u = u ≡ none
+PassInBook b (some p) u = (t : List ℕ) × (u ≡ some t) × (inBook b p ≡ some t)
+
 -- "its packed diagram tabulates to that same table; the node count handed back is the number of its records, and every other order of the flags draws
 -- the table with at least as many"
 pub record PackedWell (n : ℕ) (t order : List ℕ) (nodes root : ℕ) (d : List ℕ) : Type 0 where
@@ -179,12 +210,15 @@ abbrev pub Agrees : Book → Fed → Type 0
 Agrees b e = (m : ℕ) (t u : List ℕ) → inBook b m ≡ some t → inBook (enter b e) m ≡ some u → (Opens e → ⊥) → t ≡ u
 
 -- of a walk under a pass rule that is in the book (request 5): the book has in the walk's row what `PassRuleSays` says; of a provoke of a rule and a pass rule
--- that are both in the book (request 8): what `ProvokedInBook` says
+-- that are both in the book (request 8): what `ProvokedInBook` says; of a replay of such a rule, under such a pass rule or none (request 9), that it gives
+-- neither 6 nor 7 (the log is lent bytes, which what is fed leaves out: what a replay answers is said of one after the list, and so after each part of it)
 abbrev pub QueryObeys : Book → Query → Reply → Type 0
 QueryObeys b (tabulating m) r = Unit {0}
 QueryObeys b (walking m none row) r = Unit {0}
 QueryObeys b (walking m (some p) row) r = (t : List ℕ) → inBook b p ≡ some t → PassRuleSays t row r
 QueryObeys b (provoking m wanted p fixed ones) r = (t u : List ℕ) → inBook b m ≡ some t → inBook b p ≡ some u → ProvokedInBook t wanted u fixed ones r
+QueryObeys b (replaying m pass) r =
+    (t : List ℕ) (u : Option (List ℕ)) → inBook b m ≡ some t → PassInBook b pass u → (numberOf r ≢ 6) × (numberOf r ≢ 7)
 
 -- of any other call nothing is said
 abbrev pub ObeysBy : Book → Asked → Reply → Type 0
@@ -224,6 +258,9 @@ pub record AfterList (s : State) (c : List ℕ) (b : Book) (es : List Fed) : Typ
   pub kept : (m : ℕ) (t : List ℕ) → inBook (bookOf b es) m ≡ some t → RuleKept s c m t
   pub provoked : (m p : ℕ) (t u : List ℕ) → inBook (bookOf b es) m ≡ some t → inBook (bookOf b es) p ≡ some u
       → (wanted fixed ones : ℕ) (r : Reply) (s′ : State) → Provoke s c m wanted p fixed ones r s′ → ProvokedInBook t wanted u fixed ones r
+  -- a log that is played through a rule in the book, under a pass rule in it or none, is answered by the book's tables and the store's order (request 9)
+  pub replayed : (m : ℕ) (pass : Option ℕ) (t : List ℕ) (u : Option (List ℕ)) → inBook (bookOf b es) m ≡ some t → PassInBook (bookOf b es) pass u
+      → (log : List ℕ) (r : Reply) (s′ : State) → Replay s c m pass log r s′ → ReplayedInBook (s .n) (s .places) t u log r
   pub rewritten : Throughout Agrees b es
   pub obeyed : Throughout Obeys b es
   pub equally : (n : ℕ) (t : List ℕ) → EquallyMany n t
@@ -302,7 +339,7 @@ pub record AimFits (n wanted fixed ones : ℕ) : Type 0 where
   pub ones-below : (i : ℕ) → bit ones i ≡ 1 → i < n
   pub ones-fixed : (i : ℕ) → bit ones i ≡ 1 → bit fixed i ≡ 1
 
--- what its other checks ask of the cells and the two nodes: it meets none of 1 4 5 6, 7 for the rule, 7 for the pass rule
+-- what its other checks ask of the cells and the two nodes, and replay's (request 9): none of 1 4 5 6, 7 for the rule, 7 for the pass rule
 pub record NodesFit (n used m p : ℕ) (order c : List ℕ) : Type 0 where
   pub few : n ≤ 10
   pub order-fits : fitOrder n order ≡ true
@@ -342,6 +379,79 @@ pub record Provocation : Type 0 where
       → Walks n order c used m (some p) row q → (set : ℕ) × (count : ℕ) × Gives q (wanted ∷ set ∷ count ∷ [])
   -- who has no pass rule gives node 1, which allows each row
   pub every-row : (n row : ℕ) (c : List ℕ) → row < 2 ^ n → getD (tableOf n c 1) row 0 ≡ 1
+
+-- ---- playing a rig log (request 9)
+
+-- what 16 asks of a log: whole snapshots, and at most 65,534 bytes
+pub record LogFits (log : List ℕ) : Type 0 where
+  pub whole : length log % 2 ≡ 0
+  pub short : length log ≤ mostLog
+
+-- n, the order, the cells, the rule and the pass rule, where one is given, are fit ("yes" is fit always)
+abbrev pub RulesFit : ℕ → ℕ → ℕ → Option ℕ → List ℕ → List ℕ → Type 0
+RulesFit n used m pass order c = NodesFit n used m (Option·getD pass 1) order c
+
+-- the pass rule's table, where one is given
+abbrev pub passTable : ℕ → List ℕ → Option ℕ → Option (List ℕ)
+passTable n c none = none
+passTable n c (some p) = some (tableOf n c p)
+
+-- walks from one node for these rows, under one pass rule or none, and their replies
+abbrev pub WalksFor : ℕ → List ℕ → List ℕ → ℕ → ℕ → Option ℕ → List ℕ → List Reply → Type 0
+WalksFor n order c used m pass [] [] = Unit {0}
+WalksFor n order c used m pass [] (q ∷ qs) = ⊥
+WalksFor n order c used m pass (row ∷ rows) [] = ⊥
+WalksFor n order c used m pass (row ∷ rows) (q ∷ qs) = Walks n order c used m pass row q × WalksFor n order c used m pass rows qs
+
+-- what an accepted walk tells of a snapshot: its answer, and the set of the flags asked
+abbrev pub toldBy : Reply → Played
+toldBy q = (valueAt q 0, valueAt q 1)
+
+-- the number of the first reply that is refused, 0 where none is
+abbrev pub firstRefused : List Reply → ℕ
+firstRefused [] = 0
+firstRefused (accepted values ∷ qs) = firstRefused qs
+firstRefused (refused k values ∷ qs) = k
+
+-- of a log that is played through node m, and so of a store's: its `Replay` has this relation in its field `asks`
+pub record RigLog : Type 0 where
+  -- "Each number equals that of a plain pass over the log using the rule's table and the walk's flags": past 1 to 7 the reply is that of the two tables and
+  -- the order alone
+  pub by-tables : (n used m : ℕ) (pass : Option ℕ) (order c log : List ℕ) (r : Reply) → Replays n order c used m pass log r
+      → RulesFit n used m pass order c → ReplayedBy n order (tableOf n c m) (passTable n c pass) log r
+  -- a log is accepted exactly where these are fit, it meets no 16, and the walk for each snapshot, under that pass rule, is accepted; the tally is then that
+  -- of what these walks tell
+  pub accepts : (n used m : ℕ) (pass : Option ℕ) (order c log : List ℕ) (r : Reply) (qs : List Reply) → Replays n order c used m pass log r
+      → WalksFor n order c used m pass (snapshots log) qs → Accepted r ↔ (RulesFit n used m pass order c × LogFits log × (firstRefused qs ≡ 0))
+  pub as-walked : (n used m : ℕ) (pass : Option ℕ) (order c log : List ℕ) (r : Reply) (qs : List Reply) → Replays n order c used m pass log r
+      → WalksFor n order c used m pass (snapshots log) qs → Accepted r → Gives r (tallyOf n (map toldBy qs))
+  -- "a row not below 2^n gives 9, a forbidden one 14, the earliest in the log first": past the other checks it is refused as the first of these walks that is
+  pub earliest : (n used m : ℕ) (pass : Option ℕ) (order c log : List ℕ) (r : Reply) (qs : List Reply) → Replays n order c used m pass log r
+      → WalksFor n order c used m pass (snapshots log) qs → RulesFit n used m pass order c → LogFits log → numberOf r ≡ firstRefused qs
+  -- "16, log of odd length or above 65,534 bytes, tested after 7 and before its rows"
+  pub sixteen : (n used m : ℕ) (pass : Option ℕ) (order c log : List ℕ) (r : Reply) → Replays n order c used m pass log r
+      → (numberOf r ≡ 16) ↔ (RulesFit n used m pass order c × (LogFits log → ⊥))
+  -- what is tested ahead of the log comes first, whatever the log
+  pub ahead : (n used m : ℕ) (pass : Option ℕ) (order c log : List ℕ) (r : Reply) → Replays n order c used m pass log r
+      → refusal (passRows n order c used m pass []) ≢ 0 → numberOf r ≡ refusal (passRows n order c used m pass [])
+  -- "A refused log gives no tally": its number and zeros; a number other than 9, 14 and 16 comes of what is tested ahead of the log
+  pub refuses : (n used m : ℕ) (pass : Option ℕ) (order c log : List ℕ) (r : Reply) → Replays n order c used m pass log r → numberOf r ≢ 0
+      → (r ≡ refused (numberOf r) (replicate tallyNumbers 0))
+      × (numberOf r ≢ 9 → numberOf r ≢ 14 → numberOf r ≢ 16 → numberOf r ≡ refusal (passRows n order c used m pass []))
+  -- "An empty log tallies zeros."
+  pub empty : (n used m : ℕ) (pass : Option ℕ) (order c : List ℕ) (r : Reply) → Replays n order c used m pass [] r → RulesFit n used m pass order c
+      → Gives r (replicate tallyNumbers 0)
+  -- "At most 32,767 snapshots are played": all of the log's, and no other number of the tally is above the number played
+  pub most : (n used m : ℕ) (pass : Option ℕ) (order c log : List ℕ) (r : Reply) → Replays n order c used m pass log r → Accepted r
+      → (valueAt r 0 * 2 ≡ length log) × (valueAt r 0 ≤ 32767) × ((i : ℕ) → valueAt r i ≤ valueAt r 0)
+  -- for a line that is taken the program prints the reply to the log when it is played, without a pass rule, through the line's table "drawn in the rising
+  -- order", in whichever cells
+  pub printed : (input c : List ℕ) (used root : ℕ) (r : Reply) → refusal (lineRows (readLine input .0)) ≡ 0 → fitCells c ≡ true
+      → DrawnAs (flagsOf (readLine input .0)) (rising (flagsOf (readLine input .0))) (rowsOf (readLine input .0)) c used root
+      → Replays (flagsOf (readLine input .0)) (rising (flagsOf (readLine input .0))) c used root none (readLine input .1) r
+      → rigTally input ≡ printedTally (flagsOf (readLine input .0)) r
+  -- and for one that is refused its number, whatever the log
+  pub unprinted : (input : List ℕ) → refusal (lineRows (readLine input .0)) ≢ 0 → rigTally input ≡ wordLine "refused" (refusal (lineRows (readLine input .0)))
 
 -- ---- the packed order
 

@@ -11,16 +11,18 @@ use lib.ListN.{length, getD, replicate}
 use Rattle.rule.specs.Tests.{each, same}
 use Rattle.rule.specs.Level.{size, askedTotal, rowsAsking}
 use Rattle.rule.specs.Order.{inPlaces, rising, askedBefore, orders, packed}
-use Rattle.rule.specs.Results.{rootBy, walking, provoking, answered}
+use Rattle.rule.specs.Results.{rootBy, walking, provoking, replaying, answered}
 use Rattle.rule.specs.Cells.{width, RecordValues, recordCells}
 use Rattle.rule.specs.Walk.{tableOf, walksAsking, askedInAll}
+use Rattle.rule.specs.Log.{tallyNumbers}
 use Rattle.rule.specs.Diagram.{diagram}
 use Rattle.rule.specs.Sequence.{inSequence, drawing}
-use Rattle.rule.specs.Refusals.{refusal, walkRows, provokeRows}
+use Rattle.rule.specs.Refusals.{refusal, logLength, walkRows, provokeRows, replayRows}
 use Rattle.rule.specs.Reply.{Reply, reply, numberOf, valuesOf}
 use Rattle.rule.specs.Files.{reading, readNumber, readValues, readCells, writeRows}
 use Rattle.rule.specs.Text.{text}
 use Rattle.rule.specs.Listing.{flagsOf, rowsOf, askingPacked, listing}
+use Rattle.rule.specs.RigTally.{rigTally}
 use Rattle.rule.specs.Sheet.{pagesFor, sheetLines, printRows, readRecord, inUse}
 
 -- the digits of a text, and the flag count and packed order of the table that they are
@@ -62,6 +64,13 @@ pub data Example : Type 0 where
   -- in records under this order a provoke of the first node, with this wanted answer, the second node as its pass rule, and these sets, the fixed flags and
   -- those of them that are 1, has this number and these values
   provokes : String → List RecordValues → ℕ → ℕ → ℕ → ℕ → ℕ → ℕ → List ℕ → Example
+  -- in records under this order a log of these bytes, played through the node under this pass rule or none, has this number and these first values; those left
+  -- of the tally's are 0
+  replays : String → List RecordValues → ℕ → Option ℕ → List ℕ → ℕ → List ℕ → Example
+  -- of a log of so many bytes 16 is tested, and this is the number
+  logHas : ℕ → ℕ → Example
+  -- for a text, and behind it these bytes, the program that plays a log prints this
+  tallies : String → List ℕ → String → Example
   -- the cells of the table under the order hold these records, and 0 past them; their neighbours pass the test of the sequence
   stands : String → String → List RecordValues → Example
   -- the records are the diagram of the table under the order, in another sequence
@@ -109,6 +118,13 @@ eitherPair = branch 3 0 1 ∷ branch 1 0 2 ∷ branch 2 3 1 ∷ branch 0 3 4 ∷
 abbrev pub neighbours : List RecordValues
 neighbours = branch 3 0 1 ∷ branch 2 0 2 ∷ branch 1 3 1 ∷ branch 0 3 4 ∷ []
 
+-- yes where flags 0 and 1 are 1, and the same with flag 1 asked first
+abbrev pub both : List RecordValues
+both = branch 1 0 1 ∷ branch 0 0 2 ∷ []
+
+abbrev pub bothTurned : List RecordValues
+bothTurned = branch 0 0 1 ∷ branch 1 0 2 ∷ []
+
 -- yes where flag 0 is 0 and flags 1 and 2 are 1, or flags 0 and 1 are: two records of one level have one low node
 abbrev pub oneLow : List RecordValues
 oneLow = branch 2 0 1 ∷ branch 1 0 1 ∷ branch 1 0 2 ∷ branch 0 4 3 ∷ []
@@ -129,13 +145,19 @@ isInSequence o rs = inSequence (length (digits o)) (inPlaces (digits o)) (record
 -- what a walk in just these records hands back, by the definitions that its contract has
 abbrev pub walkReply : List ℕ → List RecordValues → ℕ → Option ℕ → ℕ → Reply
 walkReply o rs m pass row =
-    reply (refusal (walkRows (length o) (inPlaces o) (recordCells rs) (length rs) m pass row)) (answered (length o) (recordCells rs) (walking m pass row))
+    reply (refusal (walkRows (length o) (inPlaces o) (recordCells rs) (length rs) m pass row)) (answered (length o) (recordCells rs) (walking m pass row) [])
 
 -- what a provoke in just these records hands back
 abbrev pub provokeReply : List ℕ → List RecordValues → ℕ → ℕ → ℕ → ℕ → ℕ → Reply
 provokeReply o rs m wanted p fixed ones =
     reply (refusal (provokeRows (length o) (inPlaces o) (recordCells rs) (length rs) m wanted p fixed ones))
-    (answered (length o) (recordCells rs) (provoking m wanted p fixed ones))
+    (answered (length o) (recordCells rs) (provoking m wanted p fixed ones) [])
+
+-- what a log that is played in just these records hands back
+abbrev pub replayReply : List ℕ → List RecordValues → ℕ → Option ℕ → List ℕ → Reply
+replayReply o rs m pass log =
+    reply (refusal (replayRows (length o) (inPlaces o) (recordCells rs) (length rs) m pass log))
+    (answered (length o) (recordCells rs) (replaying m pass) log)
 
 -- the table's diagram under the order in just as many cells as it needs, and its root
 abbrev pub drawnCells : List ℕ → List ℕ → List ℕ
@@ -169,6 +191,10 @@ holds (draws t o rs) = isDrawn t o rs
 holds (walks o rs m row k values) = tells (walkReply (digits o) rs m none row) k values
 holds (walksUnder o rs m p row k values) = tells (walkReply (digits o) rs m (some p) row) k values
 holds (provokes o rs m wanted p fixed ones k values) = tells (provokeReply (digits o) rs m wanted p fixed ones) k values
+holds (replays o rs m pass log k values) =
+    tells (replayReply (digits o) rs m pass log) k (values ++ replicate (tallyNumbers - length values) 0)
+holds (logHas many k) = eqb (refusal (logLength (replicate many 0) ∷ [])) k
+holds (tallies t log s) = same (rigTally (text t ++ log)) (text s)
 holds (stands t o rs) =
     same (drawing (flagsOf (digits t)) (inPlaces (digits o)) (digits t) lentCells) (inLent rs) && isInSequence o rs
 holds (strays t o rs) = isDrawn t o rs && not (isInSequence o rs)
@@ -362,4 +388,73 @@ examples =
     ∷ provokes "" [] 0 1 1 0 0 15 (0 ∷ [])
     ∷ provokes "" [] 1 1 1 1 0 9 (0 ∷ [])
     ∷ provokes "" [] 1 1 1 1 1 9 (0 ∷ [])
+    -- request 9: rows 1 2 3 through `0001`, by hand; with flag 1 asked first the flags' numbers differ, and stand by flag
+    ∷ draws "0001" "01" both
+    ∷ replays "01" both 3 none (1 ∷ 0 ∷ 2 ∷ 0 ∷ 3 ∷ 0 ∷ []) 0 (3 ∷ 1 ∷ 1 ∷ 3 ∷ 2 ∷ [])
+    ∷ draws "0001" "10" bothTurned
+    ∷ replays "10" bothTurned 3 none (1 ∷ 0 ∷ 2 ∷ 0 ∷ 3 ∷ 0 ∷ []) 0 (3 ∷ 1 ∷ 1 ∷ 2 ∷ 3 ∷ [])
+    -- an empty log; the first snapshot is no change, whatever it answers; each of four answers is another than the last; the answers stay
+    ∷ replays "01" both 3 none [] 0 []
+    ∷ replays "01" both 3 none (3 ∷ 0 ∷ []) 0 (1 ∷ 1 ∷ 0 ∷ 1 ∷ 1 ∷ [])
+    ∷ replays "01" both 3 none (0 ∷ 0 ∷ []) 0 (1 ∷ 0 ∷ 0 ∷ 1 ∷ [])
+    ∷ replays "01" both 3 none (3 ∷ 0 ∷ 0 ∷ 0 ∷ 3 ∷ 0 ∷ 2 ∷ 0 ∷ []) 0 (4 ∷ 2 ∷ 3 ∷ 4 ∷ 2 ∷ [])
+    ∷ replays "01" both 3 none (3 ∷ 0 ∷ 3 ∷ 0 ∷ []) 0 (2 ∷ 2 ∷ 0 ∷ 2 ∷ 2 ∷ [])
+    -- low byte first: rows 256, 256 and 1 through flag 8, rows 1,023 and 512 through flag 9, and row 1,024, which is none; an end node asks nothing
+    ∷ replays "0123456789" (branch 8 0 1 ∷ []) 2 none (0 ∷ 1 ∷ 0 ∷ 1 ∷ 1 ∷ 0 ∷ []) 0 (3 ∷ 2 ∷ 1 ∷ 0 ∷ 0 ∷ 0 ∷ 0 ∷ 0 ∷ 0 ∷ 0 ∷ 0 ∷ 3 ∷ [])
+    ∷ replays "0123456789" (branch 9 0 1 ∷ []) 2 none (255 ∷ 3 ∷ 0 ∷ 2 ∷ []) 0 (2 ∷ 2 ∷ 0 ∷ 0 ∷ 0 ∷ 0 ∷ 0 ∷ 0 ∷ 0 ∷ 0 ∷ 0 ∷ 0 ∷ 2 ∷ [])
+    ∷ replays "0123456789" (branch 9 0 1 ∷ []) 2 none (0 ∷ 4 ∷ []) 9 []
+    ∷ replays "01" both 1 none (1 ∷ 0 ∷ 2 ∷ 0 ∷ []) 0 (2 ∷ 2 ∷ [])
+    ∷ replays "" [] 1 none (0 ∷ 0 ∷ 0 ∷ 0 ∷ []) 0 (2 ∷ 2 ∷ [])
+    -- under flag 1 (node 2) as its pass rule: the rule's own flags count; 14 at the first snapshot and at the last, whatever the rule says; "no" forbids no
+    -- snapshot of an empty log
+    ∷ replays "01" both 3 (some 2) (3 ∷ 0 ∷ 2 ∷ 0 ∷ []) 0 (2 ∷ 1 ∷ 1 ∷ 2 ∷ 1 ∷ [])
+    ∷ replays "01" both 3 (some 2) (1 ∷ 0 ∷ 3 ∷ 0 ∷ []) 14 []
+    ∷ replays "01" both 3 (some 2) (3 ∷ 0 ∷ 2 ∷ 0 ∷ 1 ∷ 0 ∷ []) 14 []
+    ∷ replays "01" both 1 (some 2) (1 ∷ 0 ∷ []) 14 []
+    ∷ replays "01" both 3 (some 0) [] 0 []
+    -- 9 at the first snapshot and at the last; of two faults the earlier one; a row that is both is 9
+    ∷ replays "01" both 3 none (4 ∷ 0 ∷ 3 ∷ 0 ∷ []) 9 []
+    ∷ replays "01" both 3 none (3 ∷ 0 ∷ 3 ∷ 1 ∷ []) 9 []
+    ∷ replays "01" both 3 (some 2) (3 ∷ 0 ∷ 1 ∷ 0 ∷ 4 ∷ 0 ∷ []) 14 []
+    ∷ replays "01" both 3 (some 2) (3 ∷ 0 ∷ 4 ∷ 0 ∷ 1 ∷ 0 ∷ []) 9 []
+    ∷ replays "01" both 3 (some 0) (4 ∷ 0 ∷ []) 9 []
+    -- 16 stands ahead of both, 7, for the rule as for the pass rule, ahead of 16, 6, under another order, ahead of 7, and 4 and 1 ahead of that
+    ∷ replays "01" both 3 (some 2) (1 ∷ 0 ∷ 4 ∷ 0 ∷ 3 ∷ []) 16 []
+    ∷ replays "01" both 4 none (3 ∷ []) 7 []
+    ∷ replays "01" both 3 (some 4) (3 ∷ []) 7 []
+    ∷ replays "10" both 4 (some 4) (3 ∷ []) 6 []
+    ∷ replays "00" both 4 none (3 ∷ []) 4 []
+    ∷ replays "01234567890" both 4 none (3 ∷ []) 1 []
+    ∷ logHas 0 0
+    ∷ logHas 1 16
+    ∷ logHas 2 0
+    ∷ logHas 65534 0
+    ∷ logHas 65535 16
+    ∷ logHas 65536 16
+    -- the program: the same by hand; no log, an empty one, no flags, and a log with a byte 0A, which is row 10
+    ∷ tallies "0001\n" (1 ∷ 0 ∷ 2 ∷ 0 ∷ 3 ∷ 0 ∷ []) "3\n1\n1\n3\n2\n"
+    ∷ tallies "0001" [] "0\n0\n0\n0\n0\n"
+    ∷ tallies "0001\n" [] "0\n0\n0\n0\n0\n"
+    ∷ tallies "1" [] "0\n0\n0\n"
+    ∷ tallies "0000000000100000\n" (10 ∷ 0 ∷ 9 ∷ 0 ∷ []) "2\n1\n1\n2\n1\n1\n1\n"
+    -- yes stands ahead of changes; the flags asked are those of the rising order, which isn't the packed one, and of the reduced diagram; numbers of three
+    -- digits; tables of nine and ten flags are taken
+    ∷ tallies "01\n" (1 ∷ 0 ∷ 1 ∷ 0 ∷ []) "2\n2\n0\n2\n"
+    ∷ tallies "00000111\n" (0 ∷ 0 ∷ []) "1\n0\n0\n1\n1\n0\n"
+    ∷ tallies "0011\n" (1 ∷ 0 ∷ 2 ∷ 0 ∷ []) "2\n1\n1\n0\n2\n"
+    ∷ tallies "1\n" (replicate 600 0) "300\n300\n0\n"
+    ∷ tallies "" (replicate 512 0x30 ++ (0x0A ∷ [])) "0\n0\n0\n0\n0\n0\n0\n0\n0\n0\n0\n0\n"
+    ∷ tallies "" (replicate 1024 0x30) "0\n0\n0\n0\n0\n0\n0\n0\n0\n0\n0\n0\n0\n"
+    -- 1, 2, 3, 16 and 9, each ahead of the next; a last byte 0A is the log's
+    ∷ tallies "" (replicate 1025 0x30) "refused 1\n"
+    ∷ tallies "" (replicate 2048 0x78) "refused 1\n"
+    ∷ tallies "" [] "refused 2\n"
+    ∷ tallies "\n" (0 ∷ []) "refused 2\n"
+    ∷ tallies "0x0\n" (0 ∷ []) "refused 2\n"
+    ∷ tallies "0x\n" (0 ∷ []) "refused 3\n"
+    ∷ tallies "01\n" (2 ∷ 0 ∷ 0 ∷ []) "refused 16\n"
+    ∷ tallies "01\n" (0 ∷ 0 ∷ 0x0A ∷ []) "refused 16\n"
+    ∷ tallies "1\n" (replicate 65536 1) "refused 16\n"
+    ∷ tallies "01\n" (1 ∷ 0 ∷ 2 ∷ 0 ∷ []) "refused 9\n"
+    ∷ tallies "1\n" (1 ∷ 0 ∷ []) "refused 9\n"
     ∷ []

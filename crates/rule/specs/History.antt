@@ -21,7 +21,7 @@ pub data Asked : Type 0 where
   constant-call : (v : ℕ) → Asked
   -- flag, join, choose, fix
   making-call : (x : Making) → Asked
-  -- tabulate, walk, provoke
+  -- tabulate, walk, provoke, replay
   query-call : (q : Query) → Asked
 
 -- a call as it was made: what was asked and lent, the answer, and what it left. Of lent bytes only a query's are spoken of: no other call is lent any.

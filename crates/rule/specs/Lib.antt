@@ -12,6 +12,7 @@ pub mod Sequence
 pub mod Reduced
 pub mod Pass
 pub mod Provoke
+pub mod Log
 pub mod Results
 pub mod Refusals
 pub mod Reply
@@ -20,6 +21,7 @@ pub mod Calls
 pub mod Files
 pub mod Text
 pub mod Listing
+pub mod RigTally
 pub mod Sheet
 pub mod History
 pub mod Demands

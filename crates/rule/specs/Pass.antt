@@ -1,5 +1,5 @@
--- The pass rule that a walk may be given (document 02, request 5) and that a provoke names (request 8): "a second node in the same store"; where a walk has none,
--- every row may happen.
+-- The pass rule that a walk may be given (document 02, request 5), and a replay (request 9), and that a provoke names (request 8): "a second node in the same
+-- store"; where none is given, every row may happen.
 -- Assumes nothing.
 use mathlib.Core.Bool.{Bool, false}
 use mathlib.Core.List.{List, [], _∷_}

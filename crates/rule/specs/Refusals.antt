@@ -1,11 +1,11 @@
--- The refusal table, row by row, and for every call the rows that it tests, in its sequence (document 01, "Refused, by where it is found"; 14 and 15:
--- document 02, requests 5 and 8).
+-- The refusal table, row by row, and for every call the rows that it tests, in its sequence (document 01, "Refused, by where it is found"; 14, 15 and
+-- 16: document 02, requests 5, 8 and 9).
 -- The reader's own sequence and the writer's rows are in Files.antt, print's rows in Sheet.antt.
 -- Assumes nothing.
 use mathlib.Core.Bool.{Bool, true, false, not, _&&_, _||_}
-use mathlib.Core.List.{List, [], _∷_, _++_, map}
+use mathlib.Core.List.{List, [], _∷_, _++_, map, flatMap}
 use mathlib.Core.Option.{Option}
-use Prim.Native.Nat.{ℕ, _+_, _^_}
+use Prim.Native.Nat.{ℕ, _+_, _%_, _^_}
 use lib.Dec.{eqb, leb, ltb}
 use lib.ListN.{length}
 use Rattle.rule.specs.Table.{fitLength, fitRows}
@@ -16,7 +16,8 @@ use Rattle.rule.specs.Sound.{sound}
 use Rattle.rule.specs.Diagram.{allReached}
 use Rattle.rule.specs.Pass.{passNodes, forbids}
 use Rattle.rule.specs.Provoke.{onesFixed, servingIn}
-use Rattle.rule.specs.Results.{Making, flag, join, choose, fix, rulesAmong, madeIn, needed, free, Query, tabulating, walking, provoking}
+use Rattle.rule.specs.Log.{snapshots}
+use Rattle.rule.specs.Results.{Making, flag, join, choose, fix, rulesAmong, madeIn, needed, free, Query, tabulating, walking, provoking, replaying}
 
 -- a row of the table: whether it applies, and its number
 abbrev pub Row : Type 0
@@ -105,6 +106,14 @@ passArgument n c pass r = (forbids n c pass r, 14)
 abbrev pub noSuchRow : List ℕ → Row
 noSuchRow rows = (eqb (length rows) 0, 15)
 
+-- "65,534 bytes": those of 32,767 snapshots
+abbrev pub mostLog : ℕ
+mostLog = 65534
+
+-- "log of odd length or above 65,534 bytes" (request 9)
+abbrev pub logLength : List ℕ → Row
+logLength log = (eqb (length log % 2) 1 || ltb mostLog (length log), 16)
+
 -- ---- the calls
 
 abbrev pub buildRows : ℕ → List ℕ → List ℕ → List ℕ → List Row
@@ -118,15 +127,18 @@ checkRows n o c used root = flagCount n ∷ orderPlaces n o ∷ cells c ∷ diag
 abbrev pub rowRows : ℕ → List ℕ → Option ℕ → ℕ → List Row
 rowRows n c pass r = rowArgument n r ∷ passArgument n c pass r ∷ []
 
--- 7 for the rule, then for the pass rule
-abbrev pub walkRows : ℕ → List ℕ → List ℕ → ℕ → ℕ → Option ℕ → ℕ → List Row
-walkRows n o c used m pass r =
+-- 1 4 5 6, 7 for the rule, 7 for the pass rule, if one is given; then these
+abbrev pub passRows : ℕ → List ℕ → List ℕ → ℕ → ℕ → Option ℕ → List Row → List Row
+passRows n o c used m pass rows =
     flagCount n
     ∷ orderPlaces n o
     ∷ cells c
     ∷ records n o c used
     ∷ node used m
-    ∷ (map (node used) (passNodes pass) ++ rowRows n c pass r)
+    ∷ (map (node used) (passNodes pass) ++ rows)
+
+abbrev pub walkRows : ℕ → List ℕ → List ℕ → ℕ → ℕ → Option ℕ → ℕ → List Row
+walkRows n o c used m pass r = passRows n o c used m pass (rowRows n c pass r)
 
 -- "tabulate a rule into lent bytes": their length is tested, and none of them is read
 abbrev pub tabulateRows : ℕ → List ℕ → List ℕ → ℕ → ℕ → List ℕ → List Row
@@ -148,11 +160,19 @@ provokeRows n o c used m wanted p fixed ones =
     ∷ node used p
     ∷ (aimRows n wanted fixed ones ++ (noSuchRow (servingIn n c m wanted p fixed ones) ∷ []))
 
+-- what is tested of a log: 16, "tested after 7 and before its rows", then what is of each row; "the earliest in the log first" (request 9)
+abbrev pub logRows : ℕ → List ℕ → Option ℕ → List ℕ → List Row
+logRows n c pass log = logLength log ∷ flatMap (rowRows n c pass) (snapshots log)
+
+abbrev pub replayRows : ℕ → List ℕ → List ℕ → ℕ → ℕ → Option ℕ → List ℕ → List Row
+replayRows n o c used m pass log = passRows n o c used m pass (logRows n c pass log)
+
 -- those of a call that makes no rule, with the bytes that it is lent
 abbrev pub queryRows : ℕ → List ℕ → List ℕ → ℕ → Query → List ℕ → List Row
 queryRows n o c used (tabulating m) bytes = tabulateRows n o c used m bytes
 queryRows n o c used (walking m pass row) bytes = walkRows n o c used m pass row
 queryRows n o c used (provoking m wanted p fixed ones) bytes = provokeRows n o c used m wanted p fixed ones
+queryRows n o c used (replaying m pass) log = replayRows n o c used m pass log
 
 -- "open tests neither 6 nor 7"
 abbrev pub openRows : ℕ → List ℕ → List ℕ → List Row

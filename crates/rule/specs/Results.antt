@@ -1,6 +1,6 @@
 -- The calls that make a rule, the tables that they make, and the records that a result needs; the calls that make none, and what they hand back (document 01,
 -- "The store", "The book beside the store" and, of a root, "Tables, orders, nodes"; what a walk hands back: request 2, its pass rule: request 5; provoke:
--- request 8).
+-- request 8; replay, which plays a log: request 9).
 -- Assumes nothing.
 use mathlib.Core.Bool.{true, false, not, cond}
 use mathlib.Core.List.{List, [], _∷_, map}
@@ -16,6 +16,7 @@ use Rattle.rule.specs.Order.{flags}
 use Rattle.rule.specs.Cells.{room}
 use Rattle.rule.specs.Walk.{walkValues, tableOf}
 use Rattle.rule.specs.Provoke.{servingIn}
+use Rattle.rule.specs.Log.{snapshots, playedIn, tallyOf}
 
 -- "the constant"
 abbrev pub constantTable : ℕ → ℕ → List ℕ
@@ -111,9 +112,13 @@ pub data Query : Type 0 where
   walking : (m : ℕ) (pass : Option ℕ) (row : ℕ) → Query
   -- "names a rule, a wanted answer, a pass rule and some flags with fixed values, and wants a row to play" (request 8)
   provoking : (m wanted p fixed ones : ℕ) → Query
+  -- "Playing a rig log through a rule": the lent bytes are the log; "A pass rule may be given as to a walk" (request 9)
+  replaying : (m : ℕ) (pass : Option ℕ) → Query
 
--- the values that it hands back: "The flags a walk reports are the rule's own", whatever its pass rule; "the lowest row" that serves
-abbrev pub answered : ℕ → List ℕ → Query → List ℕ
-answered n c (tabulating m) = []
-answered n c (walking m pass row) = walkValues c m row
-answered n c (provoking m wanted p fixed ones) = getD (servingIn n c m wanted p fixed ones) 0 0 ∷ []
+-- the values that it hands back, with the bytes that it is lent: "The flags a walk reports are the rule's own", whatever its pass rule, and so are those that
+-- the tally of a log counts; "the lowest row" that serves
+abbrev pub answered : ℕ → List ℕ → Query → List ℕ → List ℕ
+answered n c (tabulating m) bytes = []
+answered n c (walking m pass row) bytes = walkValues c m row
+answered n c (provoking m wanted p fixed ones) bytes = getD (servingIn n c m wanted p fixed ones) 0 0 ∷ []
+answered n c (replaying m pass) log = tallyOf n (playedIn n c m (snapshots log))

@@ -5,6 +5,7 @@ mod run;
 
 pub use aligned::put_blanks;
 pub use aligned::put_right;
+pub use decimal::put_decimal;
 pub use decimal::put_line;
 pub use decimal::put_number;
 pub use run::put_byte;

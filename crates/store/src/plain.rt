@@ -1,14 +1,16 @@
-// Open, and the calls that make no rule: tabulate, walk and provoke.
+// Open, and the calls that make no rule: tabulate, walk, provoke and replay.
 use crate::state::Passed;
 use crate::state::Provoked;
+use crate::state::Replayed;
 use crate::state::Store;
 use crate::state::Walked;
 use rule::Done;
 use rule::Node;
 use rule::Pass;
 ghost use Rattle.rule.specs.Answers.{doneReply, saidReply, soughtReply};
-ghost use Rattle.rule.specs.Calls.{Open, Tabulate, Walk, Provoke};
+ghost use Rattle.rule.specs.Calls.{Open, Tabulate, Walk, Provoke, Replay};
 ghost use Rattle.rule.specs.Pass.{passOf};
+ghost use Rattle.tallying.specs.Tally.{talliedReply};
 ghost use Rattle.store.specs.State.{stateOf};
 
 impl Store {
@@ -80,6 +82,21 @@ impl Store {
         );
         Provoked {
             store: self,
+            answer,
+        }
+    }
+
+    // Replay: the tally of a log that is played through a rule under a pass rule, if it has one; or why there is none: 1, 4, 5, 6, 7 for the rule, 7 for the
+    // pass rule, 16, then for each snapshot 9 and 14.
+    pub fn replay(self, cells: &[u16], rule: Node, pass: Pass, log: &[u8]) -> Replayed
+        ensures { λ r. ⌜ Replay (stateOf self) (now (cells .entry)) (rule .number) (passOf pass) (now (log .entry)) (talliedReply (r .tally) (r .answer)) (stateOf (r .store)) ⌝ }
+    {
+        let played = replaying::replay(self.n, self.order, cells, self.used, rule, pass, log);
+        let tally = played.tally;
+        let answer = played.answer;
+        Replayed {
+            store: self,
+            tally,
             answer,
         }
     }

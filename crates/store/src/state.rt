@@ -3,6 +3,7 @@ use rule::Made;
 use rule::Order;
 use rule::Said;
 use rule::Sought;
+use tallying::Tally;
 
 // The number of flags, the order, and the number of records used.
 pub struct Store {
@@ -33,4 +34,11 @@ pub struct Walked {
 pub struct Provoked {
     pub store: Store,
     pub answer: Sought,
+}
+
+// Replay: the state and the tally beside the answer.
+pub struct Replayed {
+    pub store: Store,
+    pub tally: Tally,
+    pub answer: Done,
 }

@@ -11,20 +11,20 @@ use sessions::given;
 use sessions::state;
 use store::Store;
 use words::lent::each_byte_is;
+use words::log::put_log;
 use words::print;
 use words::read::byte;
 
-// The bytes that a tabulate is lent at most: one more than a table has rows.
-const BYTES: usize = sessions::MOST_ROWS + 1;
+// The bytes that a call is lent at most: as many as its words can name.
+const BYTES: usize = 65535;
 
 // What they are lent with.
 const JUNK: u8 = 9;
 
-// What a call answered, and the state that it left.
+// What a call answered, as it was noted, and the state that it left.
 struct Reached {
     store: Store,
-    number: u16,
-    values: [u16; 3],
+    answers: [u16; NOTE],
 }
 
 // The call that the words code, made with these bytes.
@@ -32,14 +32,10 @@ fn told(s: Session, words: &[u16; CALL], cells: &mut [u16], bytes: &mut [u8; BYT
     let mut answers = [0u16; NOTE];
     let played = play(s.store, words, cells, bytes, &mut answers);
     let store = played.store;
-    Reached {
-        store,
-        number: answers[0],
-        values: [answers[1], answers[2], answers[3]],
-    }
+    Reached { store, answers }
 }
 
-// A call that is no tabulate.
+// A call that is lent no bytes.
 fn told_alone(s: Session, words: &[u16; CALL], cells: &mut [u16]) -> Reached {
     let mut bytes = [JUNK; BYTES];
     told(s, words, cells, &mut bytes)
@@ -75,7 +71,7 @@ fn opening(given: Store) -> [u16; CALL] {
 fn open(mut s: Session, text: &[u8], cells: &mut [u16]) -> Session {
     let words = opening(state(text, 2));
     let told = told_alone(s, &words, cells);
-    let number = told.number;
+    let number = told.answers[0];
     print::text(b"open ");
     if number == 0 {
         print::text(b"accepted");
@@ -99,6 +95,8 @@ fn kind(command: u8) -> u16 {
         b't' => 6,
         b'g' => 8,
         b'p' => 9,
+        b'r' => 10,
+        b'q' => 11,
         _ => 7,
     }
 }
@@ -140,12 +138,12 @@ fn make(s: Session, text: &[u8], cells: &mut [u16], command: u8) -> Session {
     let words = asked(s, text, command);
     let told = told_alone(s, &words, cells);
     let store = told.store;
-    let number = told.number;
+    let number = told.answers[0];
     if number != 0 {
         print::number(b"refused", number);
         return s.counted(store, NONE, false);
     }
-    let node = told.values[0];
+    let node = told.answers[1];
     let after = s.counted(store, node, is_inner(s, node, store.used));
     print::text(b"rule ");
     after.print_node(node);
@@ -183,7 +181,7 @@ fn tabulate(s: Session, text: &[u8], cells: &mut [u16]) -> Session {
     let words = asked(s, text, b't');
     let mut bytes = [JUNK; BYTES];
     let told = told(s, &words, cells, &mut bytes);
-    let number = told.number;
+    let number = told.answers[0];
     if number == 0 {
         table(&bytes, words[2]);
     } else {
@@ -196,12 +194,12 @@ fn tabulate(s: Session, text: &[u8], cells: &mut [u16]) -> Session {
 fn walk(s: Session, text: &[u8], cells: &mut [u16], command: u8) -> Session {
     let words = asked(s, text, command);
     let told = told_alone(s, &words, cells);
-    let number = told.number;
+    let number = told.answers[0];
     if number == 0 {
-        let values = told.values;
-        print::number(b"answer", values[0]);
-        print::number(b" asked", values[1]);
-        print::number(b" number", values[2]);
+        let answers = told.answers;
+        print::number(b"answer", answers[1]);
+        print::number(b" asked", answers[2]);
+        print::number(b" number", answers[3]);
     } else {
         print::number(b"refused", number);
     }
@@ -212,10 +210,41 @@ fn walk(s: Session, text: &[u8], cells: &mut [u16], command: u8) -> Session {
 fn provoke(s: Session, text: &[u8], cells: &mut [u16]) -> Session {
     let words = asked(s, text, b'p');
     let told = told_alone(s, &words, cells);
-    let number = told.number;
+    let number = told.answers[0];
     if number == 0 {
-        let values = told.values;
-        print::number(b"row", values[0]);
+        let answers = told.answers;
+        print::number(b"row", answers[1]);
+    } else {
+        print::number(b"refused", number);
+    }
+    s.counted(told.store, NONE, false)
+}
+
+// A tally that was noted.
+fn tally(answers: [u16; NOTE]) {
+    print::text(b"tally");
+    print::numbers(&answers[1..NOTE]);
+}
+
+// r A ODD ROW TIMES .., or q A PASS ODD ROW TIMES .., which has a pass rule
+fn replay(s: Session, text: &[u8], cells: &mut [u16], command: u8) -> Session {
+    let a = given(s, text, 2);
+    let mut bytes = [JUNK; BYTES];
+    let mut words = [0u16; CALL];
+    words[0] = kind(command);
+    words[1] = a.value;
+    if command == b'r' {
+        words[2] = put_log(text, a.next, &mut bytes, 0) as u16;
+    } else {
+        let b = given(s, text, a.next);
+        words[2] = b.value;
+        words[3] = put_log(text, b.next, &mut bytes, 0) as u16;
+    }
+    let told = told(s, &words, cells, &mut bytes);
+    let number = told.answers[0];
+    if number == 0 {
+        let answers = told.answers;
+        tally(answers);
     } else {
         print::number(b"refused", number);
     }
@@ -229,6 +258,7 @@ fn played(s: Session, text: &[u8], cells: &mut [u16], command: u8) -> Session {
         b't' => tabulate(s, text, cells),
         b'w' | b'g' => walk(s, text, cells, command),
         b'p' => provoke(s, text, cells),
+        b'r' | b'q' => replay(s, text, cells, command),
         b'k' | b'f' | b'j' | b'c' | b'x' => make(s, text, cells, command),
         _ => {
             print::unknown();

@@ -47,4 +47,5 @@ pub mod Apply
 pub mod Serving
 pub mod Refused
 pub mod Pass
+pub mod Log
 pub mod Reading

@@ -286,6 +286,14 @@ is-fit-order n o p z = and-join (order-each-once n o p) (at-rest-zero n o z)
 pub in-places-length : (o : List ℕ) → length (inPlaces o) ≡ places
 in-places-length o = simp (length-take, length-append, length-replicate) (omega arith)
 
+-- and what a refusal hands back in place of them
+zeros : (l : List ℕ) → map {B = ℕ} (λ v. 0) l ≡ replicate (length l) 0
+zeros [] = refl
+zeros (x ∷ l) = ap {B = List ℕ} (λ m. 0 ∷ m) (zeros l)
+
+pub zero-places : (o : List ℕ) → map {B = ℕ} (λ v. 0) (inPlaces o) ≡ replicate 10 0
+zero-places o = zeros (inPlaces o) ∙ ap (λ (k : ℕ). replicate {A = ℕ} k 0) (in-places-length o)
+
 pub in-places-is : (o : List ℕ) → length o ≤ 10 → inPlaces o ≡ o ++ replicate (10 - length o) 0
 in-places-is o h =
     let k = length o in
@@ -318,6 +326,9 @@ module _ (n : ℕ) (o : List ℕ) (h : n ≤ 10) (p : Order n o) where
 -- the rising order in its ten places
 pub rising-fit : (n : ℕ) → n ≤ 10 → fitOrder n (rising n) ≡ true
 rising-fit n h = in-places-fit n (below n) h (below-order n)
+
+pub rising-flags : (n : ℕ) → n ≤ 10 → flags n (rising n) ≡ below n
+rising-flags n h = flags-in-places n (below n) h (below-order n)
 
 -- the packed order in its ten places
 module _ (n : ℕ) (t : List ℕ) (h : n ≤ 10) where

@@ -60,6 +60,17 @@ pub rows-alike : (rows more other : List Row) → refusal more ≡ refusal other
 rows-alike [] more other e = e
 rows-alike (row ∷ rows) more other e = ap (firstElse (row .0) (row .1)) (rows-alike rows more other e)
 
+-- and ahead of others that do
+pub both-alike : (a b x y : List Row) → numbered a ≡ true → numbered b ≡ true → refusal a ≡ refusal b → refusal x ≡ refusal y
+    → refusal (a ++ x) ≡ refusal (b ++ y)
+both-alike a b x y f g e h = go (refusal a) refl
+  where
+    go : (k : ℕ) → refusal a ≡ k → refusal (a ++ x) ≡ refusal (b ++ y)
+    go zero z = sym (passed-more a x f z) ∙ h ∙ passed-more b y g (sym e ∙ z)
+    go (suc k) z =
+        let far : refusal a ≡ 0 → ⊥ = λ q. omega (arith, z, q) in
+        sym (refused-more a x far) ∙ e ∙ refused-more b y (λ q. far (e ∙ q))
+
 -- the numbers of these rows are at most so much, and so is the one that they give
 abbrev pub upTo : ℕ → List Row → Bool
 upTo most [] = true

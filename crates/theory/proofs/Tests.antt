@@ -39,6 +39,10 @@ pub or-first : (a b : Bool) → (a || b) ≡ false → a ≡ false
 or-first true b e = e
 or-first false b e = refl
 
+pub or-second : (a b : Bool) → (a || b) ≡ false → b ≡ false
+or-second true b e = absurd (true≢false e)
+or-second false b e = e
+
 pub and-join : {a b : Bool} → a ≡ true → b ≡ true → (a && b) ≡ true
 and-join e f = rw (e, f)
 

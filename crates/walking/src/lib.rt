@@ -6,3 +6,7 @@ mod steps;
 
 pub use call::tabulate;
 pub use call::walk;
+pub use pass::pass_node;
+pub use pass::row_refusal;
+pub use steps::Descent;
+pub use steps::descend;

@@ -6,16 +6,17 @@ use borrow.Author.Tests.{ne-eqb}
 use Rattle.coding.proofs.request_by.Statement.{statement}
 use Rattle.coding.proofs.request_by.Tie as tie
 
--- the rest is what is none of the kinds
-returns-10 : tie.Need-returns-10
-returns-10 c =
-    let r = c .match .rest in
-    rw (ne-eqb _ _ (r .0 .0 .0 .0 .0 .0 .0 .0 .1), ne-eqb _ _ (r .0 .0 .0 .0 .0 .0 .0 .1), ne-eqb _ _ (r .0 .0 .0 .0 .0 .0 .1), ne-eqb _ _ (r .0 .0 .0 .0 .0 .1), ne-eqb _ _ (r .0 .0 .0 .0 .1), ne-eqb _ _ (r .0 .0 .0 .1), ne-eqb _ _ (r .0 .0 .1), ne-eqb _ _ (r .0 .1), ne-eqb _ _ (r .1)) refl
+-- the rest is what is none of the kinds that make a rule
+returns-7 : tie.Need-returns-7
+returns-7 c =
+    let r = c .before .match .rest in
+    rw (ne-eqb _ _ (r .0 .0 .0 .0 .0 .1), ne-eqb _ _ (r .0 .0 .0 .0 .1), ne-eqb _ _ (r .0 .0 .0 .1), ne-eqb _ _ (r .0 .0 .1), ne-eqb _ _ (r .0 .1), ne-eqb _ _ (r .1), c .query-by .ensures) refl
 
 pub request-by-spec : {M : Type 1} → statement M
 request-by-spec =
     tie.close
     (tie.spec
+    (λ c κs. search needs)
     (λ c κs. search needs)
     (λ c. rw (c .match .keys1))
     (λ c. rw (c .match .keys2))
@@ -23,7 +24,4 @@ request-by-spec =
     (λ c. rw (c .match .keys4, c .before .byte .ensures))
     (λ c. rw (c .match .keys5))
     (λ c. rw (c .match .keys6))
-    (λ c. rw (c .match .keys7))
-    (λ c. rw (c .match .keys8) refl)
-    (λ c. rw (c .match .keys9) refl)
-    returns-10)
+    returns-7)

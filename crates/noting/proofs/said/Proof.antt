@@ -7,6 +7,9 @@ use Rattle.noting.proofs.said.Tie as tie
 returns : tie.Need-returns
 returns c = rw (c .before .before .answer .given .1) (c .accepted .ensures)
 
+returns-2 : tie.Need-returns-2
+returns-2 c = rw (c .before .before .answer2 .given .1) (c .refused .ensures)
+
 pub said-spec : {M : Type 1} → statement M
 said-spec =
     tie.close
@@ -18,4 +21,4 @@ said-spec =
     (λ c. search needs)
     (λ c κs. search needs)
     returns
-    (λ c. search needs))
+    returns-2)

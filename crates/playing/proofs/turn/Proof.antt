@@ -7,13 +7,13 @@ use Rattle.playing.proofs.turn.Statement.{statement}
 use Rattle.playing.proofs.turn.Tie as tie
 
 note-requires : tie.Need-note-requires
-note-requires c κs = omega (arith, c .before .before .before .before .before .before .before .before .before .before .before .before .before .before .pre .1)
+note-requires c κs = omega (arith, c .before .before .before .before .before .before .before .before .before .before .before .before .before .before .before .pre .1)
 
 returns : tie.Need-returns
 returns c =
-    let asked = c .before .before .before .before .before .before .before .before .before .before .before .before .before .request-at .ensures in
-    let given = c .before .before .before .before .before .before .before .before .before .before .before .before .given-at .ensures in
-    let made = c .before .before .before .before .before .before .before .before .before .step .ensures in
+    let asked = c .before .before .before .before .before .before .before .before .before .before .before .before .before .before .request-at .ensures in
+    let given = c .before .before .before .before .before .before .before .before .before .before .before .before .before .given-at .ensures in
+    let made = c .before .before .before .before .before .before .before .before .before .before .step .ensures in
     turn-made asked given made (search needs) (c .before .before .before .note .ensures)
 
 pub turn-spec : {M : Type 1} → statement M
