@@ -1,6 +1,7 @@
 // The values that the engine's calls take and hand back (document 01): orders, nodes, a walk's pass rule, and the answer of each call; and the numbers of a rule
 // file by name. What they mean is in specs/; every other crate's contracts cite those definitions.
 #![tactic(auto)]
+
 mod answer;
 mod file;
 mod node;

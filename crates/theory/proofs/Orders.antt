@@ -57,11 +57,11 @@ picks-rising (v ∷ vs) r p m =
     pick_cases (λ (p : Pick). Rising p.1) r.1
     (λ q mq. (λ u k. r.0 u (perm_back (picks_perm vs q mq) u (tail k)), picks-rising vs r.1 q mq)) p m
 
-picks_has : (vs : List ℕ) (v : ℕ) → In v vs → (p : Pick) × In p (picks vs) × (p.0 ≡ v)
+picks_has : (v : ℕ) (vs : List ℕ) → In v vs → (p : Pick) × In p (picks vs) × (p.0 ≡ v)
 unfolding picks
-picks_has vs v (head {x = u} {xs = us} e) = ((u, us), head refl, sym e)
-picks_has vs v (tail {x = u} {xs = us} m) =
-    let (p, mp, e) = picks_has us v m in
+picks_has v vs (head {x = u} {xs = us} e) = ((u, us), head refl, sym e)
+picks_has v vs (tail {x = u} {xs = us} m) =
+    let (p, mp, e) = picks_has v us m in
     (leaving u p, tail (in_map (leaving u) mp), e)
 
 -- the flags that are taken out rise
@@ -128,7 +128,7 @@ orders_whole zero (v ∷ vs) u l o s = absurd (omega arith)
 orders_whole (suc k) [] u l [] s = absurd (omega arith)
 orders_whole (suc k) (v ∷ vs) u l [] s = absurd (not-nil (s.whole v (head refl)))
 orders_whole (suc k) vs u l (v ∷ o) s =
-    let (p, mp, e) = picks_has vs v (s.sound v (head refl)) in
+    let (p, mp, e) = picks_has v vs (s.sound v (head refl)) in
     let q = picks_perm vs p mp in
     let u' = perm_once q u in
     let s' : Exactly (λ (i : ℕ). In i p.1) o =

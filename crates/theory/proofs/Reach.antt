@@ -2,7 +2,7 @@
 -- Assumes nothing.
 use mathlib.Core.Path.{◌≡◌, refl, sym, ap, ap₂, ◌∙◌, subst}
 use mathlib.Core.Logic.{◌⊎◌, inl, inr, ◌↔◌, ◌≢◌}
-use mathlib.Core.Bool.{Bool, true, false, ◌||◌, or_false, or_true}
+use mathlib.Core.Bool.{Bool, true, false, ◌||◌, or-false, or-true}
 use mathlib.Core.List.{List}
 use Prim.Native.Nat.{ℕ, zero, suc, ◌+◌, ◌-◌, ◌≤◌, ◌<◌}
 use native.Mathlib.Nat.{le_refl}
@@ -31,7 +31,7 @@ module _ (c : List ℕ) (m : ℕ) where
   reach_stop (suc a) top h =
       ap (λ (b : Bool). eqb top m || elim b [ true ↦ false | false ↦ reach_in a c (low_at c (record_of top)) m || reach_in a c (high_at c (record_of top)) m ])
       (lt-ltb top 2 h)
-      ∙ or_false (eqb top m)
+      ∙ or-false (eqb top m)
 
   reach_step : (a k : ℕ) → reach_in (suc a) c (k + 2) m ≡ (eqb (k + 2) m || (reach_in a c (low_at c k) m || reach_in a c (high_at c k) m))
   unfolding reach_in
@@ -100,8 +100,8 @@ module _ {c : List ℕ} {used : ℕ} (s : Smaller c used) where
   pub reach_from : (k b m : ℕ) → k < used → reach c (child_at c k b) m ≡ true → reach c (k + 2) m ≡ true
   reach_from k b m h =
       child_is c k b (λ (x : ℕ). reach c x m ≡ true → reach c (k + 2) m ≡ true)
-      (λ e. reach_children s m k h ∙ rw e (or_true (eqb (k + 2) m)))
-      (λ e. reach_children s m k h ∙ rw e (ap (λ (b : Bool). eqb (k + 2) m || b) (or_true (reach c (low_at c k) m)) ∙ or_true (eqb (k + 2) m)))
+      (λ e. reach_children s m k h ∙ rw e (or-true (eqb (k + 2) m)))
+      (λ e. reach_children s m k h ∙ rw e (ap (λ (b : Bool). eqb (k + 2) m || b) (or-true (reach c (low_at c k) m)) ∙ or-true (eqb (k + 2) m)))
 
   -- what holds of m, and of a record if it holds of a child from which m is reached, holds of each node from which m is reached
   pub reach_cases : (m : ℕ) (P : ℕ → Type 0) → P m → ((k b : ℕ) → k < used → reach c (child_at c k b) m ≡ true → P (child_at c k b) → P (k + 2))

@@ -63,7 +63,7 @@ ones_le zero x = omega arith
 ones_le (suc d) x = omega (arith, ones_le d (x / 2))
 
 pub ones_small : (x : ℕ) → x < 65536 → ones x < 65536
-ones_small x h = omega (arith, count.ones_le 16 x h)
+ones_small x h = omega (arith, count.ones-le 16 x h)
 
 -- the ones of a number's lowest digits
 ones_low : (d x : ℕ) → ones (x % 2 ^ d) ≡ ones_in d x

@@ -1,6 +1,7 @@
 // The ways of a set (document 01, "Packing"; document 001, chapter 3): a way fixes the flags outside the set, and its number has their values as bits. The
 // code that a way has in a stretch is read by that number.
 #![tactic(auto)]
+
 ghost use Rattle.std.specs.Prelude.{◌≡◌, ◌*◌, ◌<◌, length};
 ghost use Rattle.ways.specs.Ways.{insert_bit, place_of, Foldable, code_at};
 
