@@ -47,7 +47,7 @@ pub fn earlier(levels: Levels, cells: &[u16], f: u16, g: u16) -> u16
 }
 
 // The nodes that a node comes to where a flag is 0 and where it is 1.
-#[derive(Drop)]
+#[derive(Clone, Copy)]
 pub struct Branches {
     pub no: u16,
     pub yes: u16,

@@ -6,7 +6,7 @@ use store::{Passed, Provoked, Replayed, Store, Stored, Walked};
 use tallying::Tally;
 
 // What a call answers, whichever it is.
-#[derive(Drop)]
+#[derive(Clone, Copy)]
 pub enum Answer {
     Done(Done),
     Made(Made),
@@ -16,7 +16,7 @@ pub enum Answer {
 }
 
 // The state beside the answer, and the tally of a log, zeros for any other call: an enum holds no array.
-#[derive(Drop)]
+#[derive(Clone, Copy)]
 pub struct Reached {
     pub store: Store,
     pub tally: Tally,

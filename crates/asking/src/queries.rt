@@ -11,7 +11,7 @@ use rule::{Node, Pass};
 use store::{Passed, Replayed, Store};
 
 // A call that makes no rule, with its arguments.
-#[derive(Drop)]
+#[derive(Clone, Copy)]
 pub enum Query {
     // Into so many of the lent bytes, from the first on.
     Tabulate {

@@ -2,7 +2,7 @@ use crate::queries::Query;
 use rule::Node;
 
 // A call that makes a rule with records, with its arguments.
-#[derive(Drop)]
+#[derive(Clone, Copy)]
 pub enum Making {
     Flag(u16),
     Join {
@@ -23,7 +23,7 @@ pub enum Making {
 }
 
 // One of the ten calls with its arguments. (The state that open is given stands beside it: an enum holds no array.)
-#[derive(Drop)]
+#[derive(Clone, Copy)]
 pub enum Request {
     Open,
     Constant(u16),

@@ -1,5 +1,6 @@
 // The bits of a row, or of a set of flags: the value that it gives a flag, and the row with a flag's value set.
 #![tactic(auto)]
+
 ghost use Rattle.std.specs.Prelude.{◌≡◌, ◌<◌};
 ghost use Rattle.rule.specs.Bits.{bit, set_bit};
 

@@ -1,6 +1,7 @@
 // Records in lent cells: the one place that knows how wide a record is and where its fields stand. Callers go by the contracts and their laws
 // (proofs/Record.antt), never by an index of their own.
 #![tactic(auto)]
+
 ghost use Rattle.std.specs.Prelude.{◌≡◌, ◌≤◌, ◌<◌, length};
 ghost use Rattle.rule.specs.Cells.{fit_cells, room, flag_at, low_at, high_at};
 ghost use Rattle.rule.specs.Sound.{rest_clear};

@@ -8,7 +8,7 @@ use rule::{Made, Node};
 use unique::{Found, Grown};
 
 // The used records after a call that makes a rule, beside its answer.
-#[derive(Drop)]
+#[derive(Clone, Copy)]
 pub struct Outcome {
     pub used: u16,
     pub answer: Made,

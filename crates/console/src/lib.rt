@@ -10,7 +10,7 @@ use libc::{STDIN_FILENO, STDOUT_FILENO};
 const ENOUGH: usize = parsing::MOST_ROWS + 1;
 
 // What was read of standard input: so many bytes, and whether it ended with them.
-#[derive(Drop)]
+#[derive(Clone, Copy)]
 struct Input {
     size: usize,
     ended: bool,

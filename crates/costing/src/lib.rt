@@ -12,7 +12,7 @@ use stretches::SET_COUNT;
 const NODE_WEIGHT: u32 = 16384;
 
 // A flag of a set, and the least cost of the orders that ask it first.
-#[derive(Drop)]
+#[derive(Clone, Copy)]
 pub struct Choice {
     pub cost: u32,
     pub flag: u16,

@@ -5,7 +5,7 @@ ghost use Rattle.cursor.specs.Step.{nothing, refused, start};
 use rule::Order;
 
 // A file read up to a place: what it says so far. The label and the records stay in the file: here is where they start, and how many bytes or records they are.
-#[derive(Drop)]
+#[derive(Clone, Copy)]
 pub struct Cursor {
     pub n: u8,
     pub order: Order,
@@ -17,7 +17,7 @@ pub struct Cursor {
 }
 
 // A file read on, or the number under which it is refused (0 for none).
-#[derive(Drop)]
+#[derive(Clone, Copy)]
 pub struct Step {
     pub refused: u8,
     pub cursor: Cursor,

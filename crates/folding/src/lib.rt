@@ -22,7 +22,7 @@ pub fn fold(source: &[u16], p: u16, stretch: &mut [u16])
 }
 
 // How many ways ask a flag, those whose halves differ, and how many nodes: the ways of these that are the first with their code.
-#[derive(Drop)]
+#[derive(Clone, Copy)]
 pub struct Asking {
     pub nodes: u64,
     pub ways: u16,

@@ -5,7 +5,7 @@ ghost use Rattle.levels.specs.Level.{Turned};
 use rule::Order;
 
 // An order of n flags, and the same turned round: the level of each flag, its place in the order.
-#[derive(Drop)]
+#[derive(Clone, Copy)]
 pub struct Levels {
     pub n: u8,
     pub order: Order,

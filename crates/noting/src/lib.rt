@@ -18,7 +18,7 @@ const VALUES: usize = 13;
 pub const NOTE: usize = 1 + VALUES;
 
 // The refusal's number, 0 where the call is accepted, and the values, 0 where there are none.
-#[derive(Drop)]
+#[derive(Clone, Copy)]
 struct Words {
     number: u16,
     values: [u16; VALUES],

@@ -1,9 +1,10 @@
 // The sixteen operators of two rules by their codes (document 01, "The store"; document 002, the column Table): what a join answers at two end nodes.
 #![tactic(auto)]
+
 ghost use Rattle.std.specs.Prelude.{◌≡◌, ◌<◌};
 ghost use Rattle.operators.specs.Answer.{digit_reply, answer};
 
-#[derive(Drop)]
+#[derive(Clone, Copy)]
 pub enum Digit {
     Node(u16),
     Refused,

@@ -13,7 +13,7 @@ use noting::{NOTE, note};
 use store::Store;
 
 // The last state, and how many calls were made.
-#[derive(Drop)]
+#[derive(Clone, Copy)]
 pub struct Played {
     pub store: Store,
     pub made: usize,

@@ -1,5 +1,5 @@
 // A node by its number. Its two end nodes are fixed values, known by name.
-#[derive(Drop)]
+#[derive(Clone, Copy)]
 pub struct Node {
     pub number: u16,
 }

@@ -2,7 +2,7 @@ ghost use Rattle.std.specs.Prelude.{◌≡◌};
 ghost use Rattle.rule.specs.Order.{rising};
 
 // An order of the flags in ten bytes, the one asked first standing first; the places from n on are 0.
-#[derive(Drop)]
+#[derive(Clone, Copy)]
 pub struct Order {
     pub places: [u8; 10],
 }

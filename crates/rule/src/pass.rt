@@ -1,7 +1,7 @@
 use crate::node::Node;
 
 // The pass rule that a walk may be given (document 02, request 5): a row for which it says no can't happen.
-#[derive(Drop)]
+#[derive(Clone, Copy)]
 pub enum Pass {
     // No pass rule: every row may happen.
     EveryRow,

@@ -1,5 +1,6 @@
 // Runs of bytes written into lent ones, one behind the other: each call hands back the next place.
 #![tactic(auto)]
+
 mod aligned;
 mod decimal;
 mod run;

@@ -56,7 +56,7 @@ pub fn build(text: &[u8], at: usize) {
 }
 
 // A node of records in use, and the place behind it.
-#[derive(Drop)]
+#[derive(Clone, Copy)]
 struct Asked {
     n: u8,
     order: Order,

@@ -10,7 +10,7 @@ pub const CALLS: usize = 40;
 pub const NONE: u16 = 65535;
 
 // A list as far as it was played.
-#[derive(Drop)]
+#[derive(Clone, Copy)]
 pub struct Session {
     // The state as the last call left it.
     pub store: Store,

@@ -1,6 +1,7 @@
 // The fixed list of all 1,024 sets of ten flags (document 01, "Packing"), by rising size and then rising number. Packing goes through it in sequence, so
 // that every subset of a set comes before it.
 #![tactic(auto)]
+
 ghost use Rattle.std.specs.Prelude.{◌≡◌, true, ◌<◌};
 ghost use Rattle.sets.specs.Sequence.{test};
 ghost use Rattle.sets.specs.Post.{SetAt, Size};

@@ -18,7 +18,7 @@ const BYTES: usize = 65535;
 const JUNK: u8 = 9;
 
 // What a call answered, as it was noted, and the state that it left.
-#[derive(Drop)]
+#[derive(Clone, Copy)]
 struct Reached {
     store: Store,
     answers: [u16; NOTE],

@@ -11,7 +11,7 @@ pub const SET_COUNT: usize = 1024;
 pub const LONGEST: usize = 1024;
 
 // A part of the workspace: its first cell, and the one behind its last.
-#[derive(Drop)]
+#[derive(Clone, Copy)]
 pub struct Part {
     pub start: usize,
     pub end: usize,

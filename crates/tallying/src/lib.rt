@@ -7,7 +7,7 @@ ghost use Rattle.tallying.specs.Tally.{counted, changed, Counts, next_tally};
 use rule::Done;
 
 // Snapshots played, yes answers, changes of answer, and how often each flag was asked.
-#[derive(Drop)]
+#[derive(Clone, Copy)]
 pub struct Tally {
     pub played: u16,
     pub yes: u16,
@@ -26,7 +26,7 @@ impl Tally {
 }
 
 // A log that was played, or why it was not: the tally, all 0 where it is refused, beside the answer.
-#[derive(Drop)]
+#[derive(Clone, Copy)]
 pub struct Tallied {
     pub tally: Tally,
     pub answer: Done,

@@ -7,7 +7,7 @@ use operators::Digit;
 use rule::Node;
 
 // The node of two rules joined, or that one must go down for it.
-#[derive(Drop)]
+#[derive(Clone, Copy)]
 pub enum Terminal {
     Node(u16),
     Down,

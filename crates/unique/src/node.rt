@@ -4,14 +4,14 @@ ghost use Rattle.record_index.specs.Index.{links, Indexed};
 ghost use Rattle.unique.specs.Node.{found_reply, MakesNode};
 
 // What was found of a node: its number, or that there is no room for its record.
-#[derive(Drop)]
+#[derive(Clone, Copy)]
 pub enum Found {
     At(u16),
     Full,
 }
 
 // The used records after a search, beside what was found.
-#[derive(Drop)]
+#[derive(Clone, Copy)]
 pub struct Grown {
     pub used: u16,
     pub found: Found,

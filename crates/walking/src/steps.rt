@@ -6,7 +6,7 @@ ghost use Rattle.theory.specs.Child.{child_at};
 ghost use Rattle.walking.specs.Walk.{Walkable};
 
 // Where a walk comes to: the end node, the set of the flags asked on the way, and their number.
-#[derive(Drop)]
+#[derive(Clone, Copy)]
 pub struct Descent {
     pub end: u16,
     pub asked: u16,

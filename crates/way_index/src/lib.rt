@@ -1,6 +1,7 @@
 // The index beside a stretch that is folded (document 001, chapter 3), in an array of the call's own: for each hash the last way entered that has it, and for each way entered the last
 // one before it with the same hash, each as its number plus 1, or 0 for none. Only the first of the ways with the same two codes is entered.
 #![tactic(auto)]
+
 ghost use Rattle.std.specs.Prelude.{◌≡◌, ◌+◌, ◌*◌, ◌<◌, length};
 ghost use Rattle.ways.specs.Ways.{Foldable};
 ghost use Rattle.way_index.specs.Index.{hash, heads, New, First, Indexed};

@@ -3,7 +3,7 @@ use crate::read::{byte, bytes, number};
 use rule::{Node, Order};
 
 // What the call is given beside its cells, and the place behind these words.
-#[derive(Drop)]
+#[derive(Clone, Copy)]
 pub struct Asked {
     pub n: u8,
     pub order: Order,

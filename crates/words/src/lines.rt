@@ -7,7 +7,7 @@ use crate::read::line_end;
 use libc::STDIN_FILENO;
 
 // A line in the buffer, or that there is none.
-#[derive(Drop)]
+#[derive(Clone, Copy)]
 pub struct Line {
     // The lines that may yet be asked for, this one among them: 0 where there is no line. A loop over the lines ends because they get fewer.
     pub left: u64,

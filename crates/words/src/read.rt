@@ -4,7 +4,7 @@ use crate::print;
 use rule::Order;
 
 // A number that was read, and the place behind it and the blank after it.
-#[derive(Drop)]
+#[derive(Clone, Copy)]
 pub struct Word {
     pub value: u16,
     pub next: usize,
