@@ -1,0 +1,14 @@
+-- `cells::copy` meets its contract: the first i cells are those of `src`.
+-- Assumes nothing.
+use mathlib.Core.Path.{sym}
+use Rattle.cells.proofs.Copied.{copied_none, copied_more, copied_all}
+use Rattle.cells.proofs.copy.Goals as goal
+
+pub loop-i-init : goal.loop-i-init
+loop-i-init c = copied_none _ _ (sym c.requires)
+
+pub loop-i-preserved : goal.loop-i-preserved
+loop-i-preserved c = copied_more _ _ _ c.loop-i.invariant c.loop-i-test.true
+
+pub returns : goal.returns
+returns c = copied_all _ _ _ c.loop-i.invariant c.loop-i-test.false

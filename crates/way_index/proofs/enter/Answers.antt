@@ -1,0 +1,17 @@
+-- `way_index::enter` meets its contract: a link and a head.
+-- Assumes nothing.
+use native.Mathlib.Omega.{arith}
+use Rattle.ways.proofs.Insert.{way_few}
+use Rattle.way_index.proofs.Chain.{index_entered}
+use Rattle.way_index.proofs.enter.Goals as goal
+
+pub bounds-index-i : goal.bounds-index-i
+bounds-index-i c = let s = c.requires in omega (arith, way_few s.0 _ s.1)
+
+pub overflow_add-index-2 : goal.overflow_add-index-2
+overflow_add-index-2 c = let s = c.requires in omega (arith, way_few s.0 _ s.1)
+
+pub returns : goal.returns
+returns c =
+    let s = c.requires in
+    index_entered (way_few s.0 _ s.1) s.3 s.2 c.code_at-low.ensures c.code_at-high.ensures c.hash-h.ensures.0
