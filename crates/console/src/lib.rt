@@ -4,7 +4,11 @@ ghost use Rattle.std.specs.Prelude.{◌≡◌, false, ◌≤◌, ◌<◌, length
 ghost use Rattle.rule.specs.Listing.{most_rows};
 ghost use Rattle.parsing.specs.Final.{Final};
 
-use libc::{STDIN_FILENO, STDOUT_FILENO};
+// Standard input, by its number.
+const STDIN_FILENO: i32 = 0;
+// Standard output, by its number.
+const STDOUT_FILENO: i32 = 1;
+
 
 // As many bytes as a listing needs at most: one more than a table's rows.
 const ENOUGH: usize = parsing::MOST_ROWS + 1;

@@ -1,5 +1,6 @@
 // A rule file read on (document 01, "Rule files"): the cursor by value, what a step comes to, and what is read first, the bit map and n.
 #![tactic(auto)]
+
 mod bytes;
 mod field;
 mod step;

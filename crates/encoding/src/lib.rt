@@ -1,5 +1,6 @@
 // The fields of a rule file (document 01, "Rule files") written into lent bytes, one behind the other: each call hands back the next place.
 #![tactic(auto)]
+
 mod fields;
 mod parts;
 

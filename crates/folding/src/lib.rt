@@ -1,6 +1,7 @@
 // Folding (document 01, "Packing"; document 001, chapter 3): the codes of a set's ways, made from those of the set without one flag, and the numbers of nodes
 // and of ways that ask that flag while the set is still to be asked. The search of pack goes through the sets with these.
 #![tactic(auto)]
+
 ghost use Rattle.std.specs.Prelude.{◌≡◌, ◌*◌, length};
 ghost use Rattle.ways.specs.Ways.{Foldable};
 ghost use Rattle.folding.specs.Fold.{Folds, Counts};

@@ -1,7 +1,9 @@
 // The second program's tables, each line of standard input listed by itself. tests/second/listing.rs says what must be written.
 #![tactic(auto)]
-use libc::STDOUT_FILENO;
 use words::lines;
+
+// Standard output, by its number.
+const STDOUT_FILENO: i32 = 1;
 
 // The listing of one line.
 fn list(line: &[u8]) {

@@ -1,5 +1,6 @@
 // Whether every used record can be reached from the root (document 01, "Tables, orders, nodes"), by one mark for each record that is a child.
 #![tactic(auto)]
+
 ghost use Rattle.std.specs.Prelude.{◌≡◌, true, ◌+◌, ◌≤◌, ◌<◌, eqb, get_or, replicate};
 ghost use Rattle.rule.specs.Bits.{below};
 ghost use Rattle.rule.specs.Tests.{each};

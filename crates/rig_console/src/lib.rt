@@ -3,7 +3,11 @@
 ghost use Rattle.std.specs.Prelude.{◌≡◌, false, ◌≤◌, length, take};
 ghost use Rattle.rig_console.specs.Final.{Final};
 
-use libc::{STDIN_FILENO, STDOUT_FILENO};
+// Standard input, by its number.
+const STDIN_FILENO: i32 = 0;
+// Standard output, by its number.
+const STDOUT_FILENO: i32 = 1;
+
 
 // As many bytes as count at most: a table's rows and the line end, and one more than the longest log.
 const ENOUGH: usize = (parsing::MOST_ROWS + 1) + (replaying::MOST_LOG + 1);

@@ -4,8 +4,10 @@
 mod assemble;
 
 use assemble::assemble;
-use libc::STDOUT_FILENO;
 use words::{lines, print};
+
+// Standard output, by its number.
+const STDOUT_FILENO: i32 = 1;
 
 // One byte more than an input may have: one that fills them all does not fit.
 const MOST: usize = 150001;

@@ -5,17 +5,17 @@ use Prim.Native.Nat.{ℕ, zero, suc, ◌+◌, ◌/◌, ◌%◌, ◌^◌, ◌*◌
 use native.Mathlib.Nat.{pow-suc}
 use native.Mathlib.Omega.{arith}
 use lib.Bits.{bit_and, and_step}
-use lib.Count.{ones, ones_in, ones_step, ones_le}
+use lib.Count.{ones, ones_in, ones_step, ones-le}
 use lib.Pow.{pow_mono}
 
-pub ones_in : (d x : ℕ) → x < 2 ^ d → ones x ≡ ones_in d x
+pub ones_counted : (d x : ℕ) → x < 2 ^ d → ones x ≡ ones_in d x
 unfolding ones ones_in
-ones_in zero zero h = refl
-ones_in zero (suc x) h = let z : ⊥ = omega arith in absurd z
-ones_in (suc d) x h =
+ones_counted zero zero h = refl
+ones_counted zero (suc x) h = let z : ⊥ = omega arith in absurd z
+ones_counted (suc d) x h =
     let p : 2 ^ suc d ≡ 2 ^ d * 2 = pow-suc 2 d in
     let q : x / 2 < 2 ^ d = omega arith in
-    ones_step x ∙ ap (λ (n : ℕ). x % 2 + n) (ones_in d (x / 2) q)
+    ones_step x ∙ ap (λ (n : ℕ). x % 2 + n) (ones_counted d (x / 2) q)
 
 halves : (a b : ℕ) → bit_and a b ≡ a → bit_and (a / 2) (b / 2) ≡ a / 2
 halves a b e = omega (arith, and_step a b)
@@ -43,4 +43,4 @@ whole (suc d) a b h g e c =
 
 -- a set of flags below n has at most n
 pub size_most : (n x : ℕ) → n ≤ 10 → x < 2 ^ n → ones_in 10 x ≤ n
-size_most n x few h = omega (arith, ones_le n x h, ones_in 10 x (omega (arith, pow_mono {i = n} {j = 10} few)))
+size_most n x few h = omega (arith, ones-le n x h, ones_counted 10 x (omega (arith, pow_mono {i = n} {j = 10} few)))

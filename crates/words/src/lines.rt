@@ -4,7 +4,9 @@ ghost use Rattle.words.specs.Held.{Held};
 
 use crate::print;
 use crate::read::line_end;
-use libc::STDIN_FILENO;
+
+// Standard input, by its number.
+const STDIN_FILENO: i32 = 0;
 
 // A line in the buffer, or that there is none.
 #[derive(Clone, Copy)]

@@ -1,6 +1,8 @@
 ghost use Rattle.std.specs.Prelude.{◌≡◌};
 
-use libc::STDOUT_FILENO;
+// Standard output, by its number.
+const STDOUT_FILENO: i32 = 1;
+
 
 // A byte as a number.
 pub fn wide(byte: u8) -> u64

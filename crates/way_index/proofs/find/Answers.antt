@@ -2,11 +2,11 @@
 -- Assumes nothing.
 use Prim.Native.Nat.{◌-◌}
 use mathlib.Core.Path.{sym, ◌∙◌}
-use mathlib.Core.Logic.{⊎_elim}
 use native.Mathlib.Omega.{arith}
 use Rattle.ways.proofs.Insert.{way_few}
 use Rattle.way_index.proofs.Chain.{searched_first, searched_next, searched_found, searched_none}
 use Rattle.way_index.proofs.find.Goals as goal
+use Rattle.way_index.proofs.find.Goals.{then-code_at-low+else-code_at-high, else-code_at-low}
 
 pub loop-at-init : goal.loop-at-init
 loop-at-init c =
@@ -46,10 +46,10 @@ loop-at-preserved c =
     let k = c.loop-at.at - 1 in
     searched_next c.loop-at.invariant (omega arith)
     (λ is.
-    ⊎_elim
-    (λ w. w.2.left (w.1.ensures ∙ is.1 ∙ sym c.code_at-high.ensures))
-    (λ w. w.left (c.code_at.ensures ∙ is.0 ∙ sym c.code_at-low.ensures))
-    c.if-code_at-low.branch)
+    elim c.if-code_at-low.branch [
+      | then-code_at-low+else-code_at-high w ↦ w.if-code_at-high.false (w.code_at-then-code_at-low.ensures ∙ is.1 ∙ sym c.code_at-high.ensures)
+      | else-code_at-low w ↦ w.if-code_at-low.false (c.code_at.ensures ∙ is.0 ∙ sym c.code_at-low.ensures)
+    ])
     (s.2.link k (omega (arith, c.loop-at.invariant.within)) (c.loop-at.invariant.hits k (omega arith)).0)
 
 pub returns : goal.returns
