@@ -1,5 +1,6 @@
 // The fields of a rule file behind n (document 01, "Rule files"): its order, label and records, each read on from where the last one ended, and all together.
 #![tactic(auto)]
+
 mod all;
 mod label;
 mod order;

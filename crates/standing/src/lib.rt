@@ -1,5 +1,6 @@
 // Whether records stand in the one sequence (document 02, request 3) already: then there is nothing to move.
 #![tactic(auto)]
+
 ghost use Rattle.std.specs.Prelude.{◌≡◌, ◌+◌, ◌≤◌, ◌<◌};
 ghost use Rattle.rule.specs.Order.{flags};
 ghost use Rattle.rule.specs.Cells.{room, flag_at};

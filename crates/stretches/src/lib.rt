@@ -1,5 +1,6 @@
 // The stretches of pack's workspace: the one crate that knows where a set's stretch stands and how long it is (document 01, "Packing").
 #![tactic(auto)]
+
 ghost use Rattle.std.specs.Prelude.{◌≡◌, ◌≤◌, ◌<◌, ◌^◌};
 ghost use Rattle.rule.specs.Sets.{stretch};
 ghost use Rattle.stretches.specs.Stretch.{Starts, PartOf};

@@ -1,6 +1,7 @@
 // The tally of a log (document 02, request 9): one record, which each snapshot updates. The work is done by value; `tick` is lent the record, and `ticked`
 // serves a caller that holds it by value.
 #![tactic(auto)]
+
 ghost use Rattle.std.specs.Prelude.{◌≡◌, ℕ, ◌<◌, get_or};
 ghost use Rattle.tallying.specs.Tally.{counted, changed, Counts, next_tally};
 

@@ -3,7 +3,6 @@ ghost use Rattle.std.specs.Prelude.{◌≡◌};
 // Standard output, by its number.
 const STDOUT_FILENO: i32 = 1;
 
-
 // A byte as a number.
 pub fn wide(byte: u8) -> u64
     ensures { result ≡ byte }
