@@ -1,5 +1,6 @@
 // What it costs to ask the flags of a set with each of them first, and the cheapest (document 01, "Packing"; document 001, chapter 3).
 #![tactic(auto)]
+
 ghost use Rattle.std.specs.Prelude.{◌≡◌, ◌*◌, ◌<◌, length};
 ghost use Rattle.rule.specs.Bits.{bit};
 ghost use Rattle.ways.specs.Ways.{place_of, Foldable};

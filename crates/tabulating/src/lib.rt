@@ -1,5 +1,6 @@
 // The recursion of tabulate (document 01, "The store"): the table of a node, filled down the order.
 #![tactic(auto)]
+
 ghost use Rattle.std.specs.Prelude.{◌≡◌, take};
 ghost use Rattle.rule.specs.Order.{flags};
 ghost use Rattle.tabulating.specs.Fill.{Filling, filled};

@@ -6,13 +6,11 @@ use mathlib.Core.List.{List}
 use Prim.Native.Nat.{ℕ}
 use native.Mathlib.Decide.{ℕ_discrete, dec_lt}
 use native.Mathlib.Omega.{arith}
-use borrow.Author.Rules.{rules}
 use borrow.Author.Tests.{lt-ltb, le-ltb, le-leb, lt-leb, ne_eqb}
 use Rattle.rule.specs.Cells.{flag_at, record_of}
 use Rattle.theory.specs.Level.{level_of}
 use Rattle.apply.specs.Step.{asks_same, earlier}
-use Rattle.apply.proofs.step.earlier.Statement.{statement}
-use Rattle.apply.proofs.step.earlier.Tie as tie
+use Rattle.apply.proofs.step.earlier.Goals as goal
 
 same_level : (n : ℕ) (order c : List ℕ) (f g : ℕ) → asks_same c f g ≡ true → level_of n order c f ≡ level_of n order c g
 unfolding asks_same level_of
@@ -34,16 +32,13 @@ same-earlier : (n : ℕ) (order c : List ℕ) (f g : ℕ) → asks_same c f g �
 unfolding earlier
 same-earlier n order c f g e = rw (le-leb (level_of n order c f) (level_of n order c g) (omega (arith, same_level n order c f g e)))
 
-returns : tie.Need-returns
-returns c = same-earlier _ _ _ _ _ (sym c.before.asks-same.ensures ∙ c.if1.true)
+pub returns-then-asks_same : goal.returns-then-asks_same
+returns-then-asks_same c = same-earlier _ _ _ _ _ (sym c.asks_same.ensures ∙ c.if-asks_same.true)
 
-returns-2 : tie.Need-returns-2
+pub returns-then-level_of : goal.returns-then-level_of
 unfolding earlier
-returns-2 c = rw (← c.before.before.level_of_lem.ensures, ← c.before.level-of2.ensures, le-leb _ _ c.if2.true)
+returns-then-level_of c = rw (← c.level_of.ensures, ← c.level_of-2.ensures, le-leb _ _ c.if-level_of.true)
 
-returns-3 : tie.Need-returns-3
+pub returns : goal.returns
 unfolding earlier
-returns-3 c = rw (← c.before.before.level_of_lem.ensures, ← c.before.level-of2.ensures, lt-leb _ _ c.if2.false)
-
-pub earlier-spec : {M : Type 1} → statement M
-earlier-spec = tie.close (tie.spec (λ c κs. search rules) returns (λ c κs. search rules) (λ c κs. search rules) returns-2 returns-3)
+returns c = rw (← c.level_of.ensures, ← c.level_of-2.ensures, lt-leb _ _ c.if-level_of.false)

@@ -1,0 +1,42 @@
+-- `costing::cheapest` meets its contract: of the set's flags passed, the one in hand is the smallest that costs least.
+-- Assumes nothing.
+use mathlib.Core.Path.{sym, ◌∙◌}
+use mathlib.Core.Logic.{⊎_elim}
+use native.Mathlib.Omega.{arith}
+use Rattle.costing.proofs.Ready.{ready_small_flag}
+use Rattle.costing.proofs.Choices.{cheapest_first, cheapest_pass, cheapest_keep, cheapest_take, cheapest_all}
+use Rattle.costing.proofs.cheapest.Goals as goal
+
+pub via-cost-requires : goal.via-cost-requires
+via-cost-requires c = let p = c.requires in (p.0, p.1, p.2.member)
+
+pub overflow_add-u : goal.overflow_add-u
+overflow_add-u c = let p = c.requires in omega (arith, ready_small_flag p.0 _ p.2.member)
+
+pub loop-u-init : goal.loop-u-init
+loop-u-init c = cheapest_first c.requires.2 c.via-cost.ensures
+
+pub bit-requires : goal.bit-requires
+bit-requires c = omega (arith, c.requires.0.started.few)
+
+pub via-other-requires : goal.via-other-requires
+via-other-requires c =
+    let p = c.requires in
+    (p.0, p.1, sym c.bit.ensures ∙ c.if-bit-eq1.true)
+
+pub overflow_add-u-in-loop-u : goal.overflow_add-u-in-loop-u
+overflow_add-u-in-loop-u c = omega (arith, c.requires.0.started.few)
+
+pub loop-u-preserved : goal.loop-u-preserved
+loop-u-preserved c =
+    let inv = c.loop-u.invariant in
+    let is = c.bit.ensures in
+    ⊎_elim
+    (λ w. rw (w.3, w.4) (cheapest_take inv (sym is ∙ w.0.taken) w.1.ensures w.2.taken))
+    (⊎_elim
+    (λ w. rw (w.3, w.4) (cheapest_keep inv w.1.ensures w.2.left))
+    (λ w. rw (w.1, w.2) (cheapest_pass inv (λ e. w.0.left (is ∙ e)))))
+    c.if-bit-eq1.branch
+
+pub returns : goal.returns
+returns c = cheapest_all c.loop-u.invariant c.requires.0 c.loop-u-test.false
