@@ -14,7 +14,6 @@ use Rattle.rule.specs.Log.{Played, yes_answers, changes_behind, changes, times_a
 use Rattle.theory.proofs.Bits.{bit_lt}
 use Rattle.theory.proofs.Tests.{keep_append, length_keep}
 use Rattle.theory.proofs.Log.{changes_le}
-use Rattle.tallying.specs.declared.Tally.{Tally}
 use Rattle.tallying.specs.Tally.{no_tally, tally_for, counted, changed, next_tally, Counts}
 
 -- the answer of the last of these snapshots, where the one before them answered so

@@ -4,4 +4,4 @@ use Prim.Native.Nat.{◌-◌}
 use Rattle.choosing.proofs.nodes.+choose_nodes.Given as goal
 
 abbrev pub decreases-choose_nodes : goal.decreases-choose_nodes
-decreases-choose_nodes l = a.0.n - l.at
+decreases-choose_nodes l = l.levels.n - l.at

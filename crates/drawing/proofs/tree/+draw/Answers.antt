@@ -33,7 +33,7 @@ set_bit-no-requires t c = let g = c.requires.0 in (
 
 pub draw-first-requires : goal.draw-first-requires
 draw-first-requires t c = let h = c.if-n-at.false in
-    (omega (arith, c.decreases, h), (first c.decreases h _ c.set_bit-no.ensures, c.requires))
+    (omega (arith, c.decreases, h), (first c.requires.0 h _ c.set_bit-no.ensures, c.requires.1))
 
 pub set_bit-yes-requires : goal.set_bit-yes-requires
 set_bit-yes-requires t c = let g = c.requires.0 in (
@@ -44,7 +44,7 @@ set_bit-yes-requires t c = let g = c.requires.0 in (
 
 pub draw-second-requires : goal.draw-second-requires
 draw-second-requires t c = let h = c.if-n-at.false in
-    (omega (arith, c.decreases), (second c.decreases h _ _ c.set_bit-yes.ensures c.draw-first.ensures.0, c.draw-first.ensures.1))
+    (omega (arith, c.decreases), (second c.requires.0 h _ _ c.set_bit-yes.ensures c.draw-first.ensures.0, c.draw-first.ensures.1))
 
 pub make_above-requires : goal.make_above-requires
 make_above-requires t c = let g = c.requires.0 in

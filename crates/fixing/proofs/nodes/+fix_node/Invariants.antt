@@ -4,4 +4,4 @@ use Prim.Native.Nat.{◌-◌}
 use Rattle.fixing.proofs.nodes.+fix_node.Given as goal
 
 abbrev pub decreases-fix_node : goal.decreases-fix_node
-decreases-fix_node l = a.0.n - l.at
+decreases-fix_node l = l.levels.n - l.at

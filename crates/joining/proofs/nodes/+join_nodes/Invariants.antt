@@ -4,4 +4,4 @@ use Prim.Native.Nat.{◌-◌}
 use Rattle.joining.proofs.nodes.+join_nodes.Given as goal
 
 abbrev pub decreases-join_nodes : goal.decreases-join_nodes
-decreases-join_nodes l = a.0.n - l.at
+decreases-join_nodes l = l.levels.n - l.at
