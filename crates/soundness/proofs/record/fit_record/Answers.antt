@@ -1,29 +1,19 @@
 -- `soundness::record::fit_record` meets its contract: each way rewrites with the tests that led to it.
 -- Assumes nothing.
+use mathlib.Core.Path.{◌≡◌}
+use mathlib.Core.List.{List}
 use Prim.Native.Nat.{ℕ, ◌+◌, ◌<◌}
 use borrow.Author.Tests.{lt-ltb, le-ltb, eq-eqb, ne_eqb}
-use Rattle.soundness.specs.Record.{fit_record, Child}
+use Rattle.rule.specs.Cells.{flag_at, low_at, high_at}
+use Rattle.soundness.specs.Record.{fit_record}
 use Rattle.soundness.proofs.Parts.{Fields, next_child, fit_new, found_new, fit_not_low, fit_not_high}
 use Rattle.soundness.proofs.record.fit_record.Goals as goal
 
 -- the tests before those of the order are passed
-passed : (c : goal.Else-node-high)
-    → Fields c.args.levels.n c.args.cells.now c.args.k c.flag_at-flag.result c.low_at-low.result c.high_at-high.result
-passed c =
-    record {
-      flag_is = c.flag_at-flag.ensures;
-      low_is = c.low_at-low.ensures;
-      high_is = c.high_at-high.ensures;
-      below_n = c.if-levels-flag.false;
-      differ = c.if-low-high.false;
-      low_smaller = c.if-node-low.false;
-      high_smaller = c.if-node-high.false;
-    }
-
--- a child that the tests before those of the order passed
-child : (c : goal.Else-node-high) (m : ℕ)
-    → m < c.args.k + 2 → Child c.args.levels c.args.cells.now c.flag_at-flag.result m
-child c m l = next_child c.requires (passed c) m l
+passed : {n : ℕ} {cells : List ℕ} {k flag low high : ℕ} → flag ≡ flag_at cells k → low ≡ low_at cells k → high ≡ high_at cells k → flag < n
+    → (low ≡ high → ⊥) → low < k + 2 → high < k + 2 → Fields n cells k flag low high
+passed e f g h d l m =
+    record { flag_is = e; low_is = f; high_is = g; below_n = h; differ = d; low_smaller = l; high_smaller = m }
 
 pub returns-then-levels-flag : goal.returns-then-levels-flag
 unfolding fit_record
@@ -66,27 +56,27 @@ returns-then-node-high c =
     )
 
 pub asks_later-requires : goal.asks_later-requires
-asks_later-requires c = child c _ c.if-node-low.false
+asks_later-requires c = next_child c.requires (passed c.flag_at-flag.ensures c.low_at-low.ensures c.high_at-high.ensures c.if-levels-flag.false c.if-low-high.false c.if-node-low.false c.if-node-high.false) _ c.if-node-low.false
 
 pub asks_later-requires-then-asks_later : goal.asks_later-requires-then-asks_later
-asks_later-requires-then-asks_later c = child c _ c.if-node-high.false
+asks_later-requires-then-asks_later c = next_child c.requires (passed c.flag_at-flag.ensures c.low_at-low.ensures c.high_at-high.ensures c.if-levels-flag.false c.if-low-high.false c.if-node-low.false c.if-node-high.false) _ c.if-node-high.false
 
 pub returns-then-asks_later-2 : goal.returns-then-asks_later-2
 returns-then-asks_later-2 c =
-    fit_new _ _ _ _ _ _ _ (passed c)
+    fit_new _ _ _ _ _ _ _ (passed c.flag_at-flag.ensures c.low_at-low.ensures c.high_at-high.ensures c.if-levels-flag.false c.if-low-high.false c.if-node-low.false c.if-node-high.false)
     c.asks_later.ensures
     c.if-asks_later.true
     c.asks_later-then-asks_later.ensures
     c.if-asks_later-2.true
-    (found_new (passed c) c.find.ensures)
+    (found_new (passed c.flag_at-flag.ensures c.low_at-low.ensures c.high_at-high.ensures c.if-levels-flag.false c.if-low-high.false c.if-node-low.false c.if-node-high.false) c.find.ensures)
 
 pub returns-else-asks_later-2 : goal.returns-else-asks_later-2
 returns-else-asks_later-2 c =
-    fit_not_high _ _ _ _ _ _ _ (passed c)
+    fit_not_high _ _ _ _ _ _ _ (passed c.flag_at-flag.ensures c.low_at-low.ensures c.high_at-high.ensures c.if-levels-flag.false c.if-low-high.false c.if-node-low.false c.if-node-high.false)
     c.asks_later.ensures
     c.if-asks_later.true
     c.asks_later-then-asks_later.ensures
     c.if-asks_later-2.false
 
 pub returns-else-asks_later : goal.returns-else-asks_later
-returns-else-asks_later c = fit_not_low _ _ _ _ _ _ _ (passed c) c.asks_later.ensures c.if-asks_later.false
+returns-else-asks_later c = fit_not_low _ _ _ _ _ _ _ (passed c.flag_at-flag.ensures c.low_at-low.ensures c.high_at-high.ensures c.if-levels-flag.false c.if-low-high.false c.if-node-low.false c.if-node-high.false) c.asks_later.ensures c.if-asks_later.false
