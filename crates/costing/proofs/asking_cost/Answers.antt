@@ -1,32 +1,34 @@
 -- `costing::asking_cost` meets its contract: both counts have room in 32 bits.
 -- Assumes nothing.
-use Prim.Native.Nat.{◌≤◌}
+use mathlib.Core.Path.{◌≡◌}
+use mathlib.Core.List.{List}
+use Prim.Native.Nat.{ℕ, ◌*◌, ◌≤◌}
 use native.Mathlib.Omega.{arith}
+use lib.ListN.{length}
 use Rattle.ways.specs.Ways.{Foldable}
+use Rattle.folding.specs.Fold.{Counts}
 use Rattle.costing.proofs.Choices.{nodes_few, asking_cost_is, asking-cost_most}
 use Rattle.costing.proofs.asking_cost.Goals as goal
 
 -- the nodes are few
-few : (k : goal.After-count-asking) → c.count-asking.result.nodes ≤ 512
-few k =
-    let f : Foldable c.args.source.now c.place_of.result = rw c.place_of.ensures c.requires.2 in
-    omega (arith, c.count-asking.ensures.nodes_are, nodes_few f c.args.codes.now c.requires.3)
+few : (s d : List ℕ) (p q nodes ways : ℕ) → p ≡ q → Foldable s q → length s ≡ length d * 2 → Counts s p d nodes ways → nodes ≤ 512
+few s d p q nodes ways e f l k = let g : Foldable s p = rw e f in omega (arith, k.nodes_are, nodes_few g d l)
 
 pub count-asking-requires : goal.count-asking-requires
 count-asking-requires c = let p = c.requires in (rw c.place_of.ensures p.2, p.3)
 
 pub overflow_cast-nodes : goal.overflow_cast-nodes
-overflow_cast-nodes c = omega (arith, few c)
+overflow_cast-nodes c = omega (arith, few _ _ _ _ _ _ c.place_of.ensures c.requires.2 c.requires.3 c.count-asking.ensures)
 
 pub overflow_mul-result : goal.overflow_mul-result
-overflow_mul-result c = omega (arith, few c)
+overflow_mul-result c = omega (arith, few _ _ _ _ _ _ c.place_of.ensures c.requires.2 c.requires.3 c.count-asking.ensures)
 
 pub overflow_add-result : goal.overflow_add-result
 overflow_add-result c =
-    let y = c.type_size.ensures in
+    let y = c.size_of.ensures in
     omega (
       arith,
-      is c,
+      asking_cost_is c.args.set c.args.v c.args.source.now c.args.codes.now c.requires.2 c.place_of.ensures c.count-asking.ensures y,
       asking-cost_most c.args.set c.args.v c.args.source.now c.args.codes.now c.requires.2 c.requires.3 (omega (arith, y.is, y.most)),
     )
 
@@ -34,4 +36,4 @@ overflow_add-result c =
 pub returns : goal.returns
 returns c =
     asking_cost_is c.args.set c.args.v c.args.source.now c.args.codes.now c.requires.2 c.place_of.ensures c.count-asking.ensures
-    c.type_size.ensures
+    c.size_of.ensures

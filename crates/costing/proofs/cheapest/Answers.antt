@@ -1,11 +1,11 @@
 -- `costing::cheapest` meets its contract: of the set's flags passed, the one in hand is the smallest that costs least.
 -- Assumes nothing.
 use mathlib.Core.Path.{sym, ◌∙◌}
-use mathlib.Core.Logic.{⊎_elim}
 use native.Mathlib.Omega.{arith}
 use Rattle.costing.proofs.Ready.{ready_small_flag}
 use Rattle.costing.proofs.Choices.{cheapest_first, cheapest_pass, cheapest_keep, cheapest_take, cheapest_all}
 use Rattle.costing.proofs.cheapest.Goals as goal
+use Rattle.costing.proofs.cheapest.Goals.{then-bit-eq1+then-other-cost, then-bit-eq1+else-other-cost, else-bit-eq1}
 
 pub via-cost-requires : goal.via-cost-requires
 via-cost-requires c = let p = c.requires in (p.0, p.1, p.2.member)
@@ -31,12 +31,11 @@ pub loop-u-preserved : goal.loop-u-preserved
 loop-u-preserved c =
     let inv = c.loop-u.invariant in
     let is = c.bit.ensures in
-    ⊎_elim
-    (λ w. rw (w.3, w.4) (cheapest_take inv (sym is ∙ w.0.taken) w.1.ensures w.2.taken))
-    (⊎_elim
-    (λ w. rw (w.3, w.4) (cheapest_keep inv w.1.ensures w.2.left))
-    (λ w. rw (w.1, w.2) (cheapest_pass inv (λ e. w.0.left (is ∙ e)))))
-    c.if-bit-eq1.branch
+    elim c.if-bit-eq1.branch [
+      | then-bit-eq1+then-other-cost w ↦ rw (w.flag-is, w.cost-is) (cheapest_take inv (sym is ∙ w.if-bit-eq1.true) w.via-other.ensures w.if-other-cost.true)
+      | then-bit-eq1+else-other-cost w ↦ rw (w.flag-is, w.cost-is) (cheapest_keep inv w.via-other.ensures w.if-other-cost.false)
+      | else-bit-eq1 w ↦ rw (w.flag-is, w.cost-is) (cheapest_pass inv (λ e. w.if-bit-eq1.false (is ∙ e)))
+    ]
 
 pub returns : goal.returns
 returns c = cheapest_all c.loop-u.invariant c.requires.0 c.loop-u-test.false

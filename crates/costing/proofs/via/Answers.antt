@@ -28,7 +28,8 @@ asking_cost-requires c =
 pub overflow_add-result : goal.overflow_add-result
 overflow_add-result c =
     let g = c.requires.0 in
-    omega (arith, is c, via_most g c.requires.1 c.args.v c.requires.2, size_most c.args.n c.args.set g.started.few g.below, g.started.few)
+    let sum = via_is g c.requires.1 _ c.requires.2 c.set_bit-rest.ensures c.locate-source.ensures c.locate-own.ensures c.asking_cost.ensures in
+    omega (arith, sum, via_most g c.requires.1 c.args.v c.requires.2, size_most c.args.n c.args.set g.started.few g.below, g.started.few)
 
 -- what is handed back, and its bound
 pub returns : goal.returns
