@@ -1,6 +1,7 @@
 // One set of the search for the packed order: its stretch, its least cost and the flag that is asked first (document 01, "Packing"; document 001,
 // chapter 3).
 #![tactic(auto)]
+
 ghost use Rattle.std.specs.Prelude.{◌≡◌, ◌≢◌, ◌≤◌, ◌<◌, ◌^◌};
 ghost use Rattle.rule.specs.Bits.{bit};
 ghost use Rattle.costing.specs.Ready.{Ready, Lowest};
