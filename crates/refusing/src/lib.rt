@@ -1,5 +1,6 @@
 // What the store's calls test of what they are given (document 01, "Refused, by where it is found"): the number of the first row that applies, 0 for none.
 #![tactic(auto)]
+
 mod code;
 mod making;
 mod nodes;

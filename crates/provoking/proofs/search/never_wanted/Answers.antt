@@ -1,0 +1,10 @@
+-- `provoking::search::never_wanted` meets its contract.
+-- Assumes nothing.
+use borrow.Author.Tests.{lt-ltb, le-ltb}
+use Rattle.provoking.proofs.search.never_wanted.Goals as goal
+
+pub returns-then-rule-lt2 : goal.returns-then-rule-lt2
+returns-then-rule-lt2 c = rw (lt-ltb _ _ c.if-rule-lt2.true)
+
+pub returns : goal.returns
+returns c = rw (le-ltb _ _ c.if-rule-lt2.false)

@@ -1,0 +1,43 @@
+-- `refusing::making::fix_refusal` meets its contract: each way goes by the rows that passed before it.
+-- Assumes nothing.
+use mathlib.Core.Path.{refl}
+use mathlib.Core.List.{[], ◌∷◌}
+use native.Mathlib.Omega.{arith}
+use borrow.Author.Tests.{lt-ltb, le-ltb, le-leb, lt-leb}
+use Rattle.rule.specs.Refusals.{flag_argument, value_argument}
+use Rattle.refusing.proofs.Rows.{then_refused, then_given, one_node}
+use Rattle.refusing.proofs.making.fix_refusal.Goals as goal
+
+pub returns-then-refused-ne0 : goal.returns-then-refused-ne0
+returns-then-refused-ne0 c =
+    let s = c.args in
+    then_refused (flag_argument s.n s.i ∷ value_argument s.value ∷ [])
+    (one_node s.n s.order.places s.cells.now s.used s.m c.nodes_refusal-refused.ensures)
+    c.if-refused-ne0.true
+
+pub returns-then-n-i : goal.returns-then-n-i
+returns-then-n-i c =
+    let s = c.args in
+    then_given (flag_argument s.n s.i ∷ value_argument s.value ∷ [])
+    (one_node s.n s.order.places s.cells.now s.used s.m c.nodes_refusal-refused.ensures)
+    refl
+    c.if-refused-ne0.false
+    (rw (le-leb _ _ c.if-n-i.true))
+
+pub returns-then-value-gt1 : goal.returns-then-value-gt1
+returns-then-value-gt1 c =
+    let s = c.args in
+    then_given (flag_argument s.n s.i ∷ value_argument s.value ∷ [])
+    (one_node s.n s.order.places s.cells.now s.used s.m c.nodes_refusal-refused.ensures)
+    refl
+    c.if-refused-ne0.false
+    (rw (lt-leb _ _ c.if-n-i.false, lt-ltb 1 s.value (omega (arith, c.if-value-gt1.true))))
+
+pub returns : goal.returns
+returns c =
+    let s = c.args in
+    then_given (flag_argument s.n s.i ∷ value_argument s.value ∷ [])
+    (one_node s.n s.order.places s.cells.now s.used s.m c.nodes_refusal-refused.ensures)
+    refl
+    c.if-refused-ne0.false
+    (rw (lt-leb _ _ c.if-n-i.false, le-ltb 1 s.value (omega (arith, c.if-value-gt1.false))))
