@@ -7,6 +7,7 @@
 //
 // To add a call: its function in the file of its kind (`diagram`, `filed`, `kept`, `packed`, `played`), a `pub use` here, and its line in bench/engine.h.
 #![tactic(auto)]
+
 mod diagram;
 mod filed;
 mod kept;
