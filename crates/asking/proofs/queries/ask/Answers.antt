@@ -4,7 +4,7 @@ use mathlib.Core.Path.{refl}
 use Rattle.asking.proofs.queries.ask.Goals as goal
 
 pub returns-in-Tabulate : goal.returns-in-Tabulate
-returns-in-Tabulate c = rw (c.in-Tabulate.is, c.done.ensures.2, c.done.ensures.1, c.done.ensures.0) (record { met = c.tabulated.ensures.0; kind = refl; beside = refl; behind = c.tabulated.ensures.1 })
+returns-in-Tabulate c = rw (c.in-Tabulate.is, c.done.ensures.2, c.done.ensures.1, c.done.ensures.0) (record { met = c.tabulated.ensures.tabulate; kind = refl; beside = refl; behind = c.tabulated.ensures.bytes_unchanged })
 
 pub returns-in-Walk : goal.returns-in-Walk
 returns-in-Walk c = rw (c.in-Walk.is, c.said.ensures.2, c.said.ensures.1, c.said.ensures.0) (record { met = c.walk.ensures; kind = refl; beside = refl; behind = refl })

@@ -8,10 +8,12 @@ pub returns-then-bytes-end : goal.returns-then-bytes-end
 returns-then-bytes-end c =
     let a = c.args in
     let call = c.tabulate in
-    all_lent a.length a.bytes.now call.new.1.1.1.0 (search rules) (search rules) call.ensures
+    let (t, b) = all_lent a.length a.bytes.now call.new.bytes (search rules) (search rules) call.ensures in
+    record { tabulate = t; bytes_unchanged = b }
 
 pub returns : goal.returns
 returns c =
     let a = c.args in
     let call = c.tabulate-2 in
-    first_lent a.length a.bytes.now call.new.1.1.1.0 (search rules) (search rules) call.ensures
+    let (t, b) = first_lent a.length a.bytes.now call.new.bytes (search rules) (search rules) call.ensures in
+    record { tabulate = t; bytes_unchanged = b }
