@@ -5,7 +5,6 @@ use mathlib.Core.Bool.{true≢false}
 use native.Mathlib.Nat.{sub-zero}
 use native.Mathlib.Omega.{arith}
 use borrow.Author.Rules.{rules}
-use borrow.Author.Tests.{not-true, not-false}
 use Rattle.parsing.proofs.Enough.{enough_final, short_front}
 use Rattle.console.proofs.read.Goals as goal
 
@@ -14,19 +13,19 @@ returns-then-read_full-eq0 c = (search rules, λ e. absurd (true≢false e))
 
 pub bounds-input-i : goal.bounds-input-i
 bounds-input-i c =
-    let few = short_front c.loop-byte.input c.loop-byte.i (omega (arith, c.loop-byte.invariant.1)) (sym c.is_enough.ensures ∙ not-true _ c.loop-byte-test.true-raw) in
+    let few = short_front c.loop-byte.input c.loop-byte.i (omega (arith, c.loop-byte.invariant.1)) (sym c.is_enough.ensures ∙ c.loop-byte-test.true) in
     omega (arith, few, c.requires, c.loop-byte.invariant.1)
 
 pub loop-byte-smaller : goal.loop-byte-smaller
 loop-byte-smaller c =
-    let few = short_front c.loop-byte.input c.loop-byte.i (omega (arith, c.loop-byte.invariant.1)) (sym c.is_enough.ensures ∙ not-true _ c.loop-byte-test.true-raw) in
+    let few = short_front c.loop-byte.input c.loop-byte.i (omega (arith, c.loop-byte.invariant.1)) (sym c.is_enough.ensures ∙ c.loop-byte-test.true) in
     omega (arith, few, c.requires)
 
 pub loop-byte-preserved : goal.loop-byte-preserved
 loop-byte-preserved c =
-    let few = short_front c.loop-byte.input c.loop-byte.i (omega (arith, c.loop-byte.invariant.1)) (sym c.is_enough.ensures ∙ not-true _ c.loop-byte-test.true-raw) in
+    let few = short_front c.loop-byte.input c.loop-byte.i (omega (arith, c.loop-byte.invariant.1)) (sym c.is_enough.ensures ∙ c.loop-byte-test.true) in
     (omega (arith, few, c.requires), search rules)
 
 pub returns : goal.returns
 returns c =
-    (omega (arith, c.loop-byte.invariant.1), λ e. rw sub-zero at (enough_final _ (sym c.is_enough.ensures ∙ not-false _ c.loop-byte-test.false-raw)))
+    (omega (arith, c.loop-byte.invariant.1), λ e. rw sub-zero at (enough_final _ (sym c.is_enough.ensures ∙ c.loop-byte-test.false)))

@@ -1,7 +1,7 @@
 -- `parsing::line::line_refusal` meets its contract: each way rewrites with the tests that led to it.
 -- Assumes nothing.
 use mathlib.Core.Path.{sym, ◌∙◌}
-use borrow.Author.Tests.{lt-ltb, le-ltb, not-true, not-false}
+use borrow.Author.Tests.{lt-ltb, le-ltb}
 use Rattle.parsing.proofs.line.line_refusal.Goals as goal
 
 pub returns-then-line-gt-MOST_ROWS : goal.returns-then-line-gt-MOST_ROWS
@@ -16,7 +16,7 @@ returns-then-not-all_digits c =
       le-ltb _ _ c.if-line-gt-MOST_ROWS.false,
       ← c.flags_of.ensures.0,
       le-ltb _ _ c.if-flags_of-gt10.false,
-      sym c.all_digits.ensures ∙ not-true _ c.if-not-all_digits.true-raw,
+      sym c.all_digits.ensures ∙ c.if-not-all_digits.true,
     )
 
 pub returns : goal.returns
@@ -25,5 +25,5 @@ returns c =
       le-ltb _ _ c.if-line-gt-MOST_ROWS.false,
       ← c.flags_of.ensures.0,
       le-ltb _ _ c.if-flags_of-gt10.false,
-      sym c.all_digits.ensures ∙ not-false _ c.if-not-all_digits.false-raw,
+      sym c.all_digits.ensures ∙ c.if-not-all_digits.false,
     )
