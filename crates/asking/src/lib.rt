@@ -1,5 +1,6 @@
 // What is asked of a store (a request) and answered, as types, and the calls that make no rule, by their query (document 01, "The store").
 #![tactic(auto)]
+
 mod answers;
 mod queries;
 mod requests;

@@ -1,5 +1,6 @@
 // The words that code one of the store's calls (document 01, "The book beside the store"): what is asked, or for open the state that it is given.
 #![tactic(auto)]
+
 ghost use Rattle.std.specs.Prelude.{◌≡◌, ◌+◌, ◌%◌, ◌≤◌, ◌<◌, length};
 ghost use Rattle.store.specs.State.{state_of};
 ghost use Rattle.coding.specs.Coded.{call_words, query_by, request_by, request_at, byte_at, given_at};

@@ -1,5 +1,6 @@
 // The body of the listing program: from standard input to standard output.
 #![tactic(auto)]
+
 ghost use Rattle.std.specs.Prelude.{◌≡◌, false, ◌≤◌, ◌<◌, length, take};
 ghost use Rattle.rule.specs.Listing.{most_rows};
 ghost use Rattle.parsing.specs.Final.{Final};
@@ -8,7 +9,6 @@ ghost use Rattle.parsing.specs.Final.{Final};
 const STDIN_FILENO: i32 = 0;
 // Standard output, by its number.
 const STDOUT_FILENO: i32 = 1;
-
 
 // As many bytes as a listing needs at most: one more than a table's rows.
 const ENOUGH: usize = parsing::MOST_ROWS + 1;

@@ -304,7 +304,7 @@ first_step s c b (query_call q) x y h = absurd h
 
 steps : {s s' : State} {c d : List ℕ} {b : Book} (xs : List Call) → Calls s c xs s' d → After s c b → After s' d (book_of b (feed xs))
 steps [] (se, ce) a = rw (se, ce) a
-steps (x ∷ xs) (y, ys) a = steps xs ys (step x.asked x y a).0
+steps {s = s} {c = c} {b = b} (x ∷ xs) (y, ys) a = steps {s = x.state} {c = x.cells} xs ys (step x.asked x y a).0
 
 pub steps_from_open : (s s' : State) (c d : List ℕ) (b : Book) (xs : List Call) → Calls s c xs s' d → BeginsOpen (feed xs)
     → After s' d (book_of b (feed xs))
@@ -316,11 +316,11 @@ module _ (P : Book → Fed → Type 0) (opens : (s : State) (c : List ℕ) (b : 
     (calls : (s : State) (c : List ℕ) (b : Book) (x : Call) → Meets s c x → After s c b → P b (fed_of x)) where
   throughout : {s : State} {c : List ℕ} {b : Book} (s' : State) (d : List ℕ) (xs : List Call) → Calls s c xs s' d → After s c b → Throughout P b (feed xs)
   throughout s' d [] ys a = tt
-  throughout {s} {c} {b} s' d (x ∷ xs) (y, ys) a = (calls s c b x y a, throughout s' d xs ys (step x.asked x y a).0)
+  throughout {s} {c} {b} s' d (x ∷ xs) (y, ys) a = (calls s c b x y a, throughout {s = x.state} {c = x.cells} s' d xs ys (step x.asked x y a).0)
 
   pub throughout_from_open : (s s' : State) (c d : List ℕ) (b : Book) (xs : List Call) → Calls s c xs s' d → BeginsOpen (feed xs) → Throughout P b (feed xs)
   throughout_from_open s s' c d b [] ys h = absurd h
-  throughout_from_open s s' c d b (x ∷ xs) (y, ys) h = (opens s c b x y h, throughout s' d xs ys (first_step s c b x.asked x y h).0)
+  throughout_from_open s s' c d b (x ∷ xs) (y, ys) h = (opens s c b x y h, throughout {s = x.state} {c = x.cells} s' d xs ys (first_step s c b x.asked x y h).0)
 
 -- so does that a table written over an older one equals it
 pub agrees_from_open : (s s' : State) (c d : List ℕ) (b : Book) (xs : List Call) → Calls s c xs s' d → BeginsOpen (feed xs) → Throughout Agrees b (feed xs)

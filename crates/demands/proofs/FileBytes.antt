@@ -56,4 +56,4 @@ records_at (r ∷ rs) p start a e =
       two_back r.low,
       two_back r.high,
     ))
-    (rw split (records_at rs (p ++ in_bytes r) start (suc a) next))
+    (ap (λ (file : List ℕ). map (record_at file start) (from (suc a) (length rs))) split ∙ records_at rs (p ++ in_bytes r) start (suc a) next)

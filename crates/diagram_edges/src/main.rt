@@ -2,6 +2,7 @@
 // the flags that walks ask (request 2), lent cells in other permitted sequences (request 3), and walks under pass rules (request 5). What it must write is
 // worked out from the papers.
 #![tactic(auto)]
+
 fn main() {
     script::run();
 }

@@ -1,4 +1,4 @@
-// C names for nine of the calls, walk under a pass rule by one of its own, for the programs of bench/ to measure: `rt staticlib exports` makes the library, and
+// C names for nine of the calls, walk under a pass rule by one of its own, for the programs of bench/ to measure: `rt lib` here makes the library, and
 // bench/engine.h declares them for C.
 //
 // Each promises the relation of the call that it wraps, of the reply that its number codes (`specs/Word.antt`): the refusal, 0 where the call is accepted, then
@@ -7,6 +7,7 @@
 //
 // To add a call: its function in the file of its kind (`diagram`, `filed`, `kept`, `packed`, `played`), a `pub use` here, and its line in bench/engine.h.
 #![tactic(auto)]
+
 mod diagram;
 mod filed;
 mod kept;

@@ -13,6 +13,7 @@
 // FILE, ORDER and LABEL are two digits to a byte, 0 to 9 and a to f, or `-` for none; what is not written of an order's ten places is 0.
 // tests/second/file_lines.rs says what is printed, and the second program what it must be.
 #![tactic(auto)]
+
 mod changing;
 mod input;
 mod loading;

@@ -1,5 +1,6 @@
 // The listing program, given no input: refused under 2.
 #![tactic(auto)]
+
 fn main() {
     console::run();
 }

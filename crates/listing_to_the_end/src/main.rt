@@ -1,5 +1,6 @@
 // The listing program, given a table that ends with the input.
 #![tactic(auto)]
+
 fn main() {
     console::run();
 }

@@ -1,5 +1,6 @@
 // The second program's tables, each line of standard input listed by itself. tests/second/listing.rs says what must be written.
 #![tactic(auto)]
+
 use words::lines;
 
 // Standard output, by its number.

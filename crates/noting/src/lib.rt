@@ -1,5 +1,6 @@
 // The words that an answer of the store's calls is noted in (document 01, "The book beside the store"): its number, and the values that it hands back.
 #![tactic(auto)]
+
 ghost use Rattle.std.specs.Prelude.{◌≡◌, ◌∷◌, ◌+◌, ◌*◌, ◌≤◌, length, replicate};
 ghost use Rattle.std.proofs.lemmas.List.Edits.{sets};
 ghost use Rattle.rule.specs.Answers.{done_reply, made_reply, said_reply, sought_reply};

@@ -1,5 +1,6 @@
 // The second program's packed tables, for which it tried every order.
 #![tactic(auto)]
+
 fn main() {
     script::run();
 }

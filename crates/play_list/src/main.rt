@@ -4,6 +4,7 @@
 // without flag 0 is (0, 3, 0), node 5. After the second flag 2 is (2, 0, 1), node 2. Cells past the used records are 0; bytes and answer words that no call
 // writes are as found.
 #![tactic(auto)]
+
 use coding::CALL;
 use noting::NOTE;
 use playing::play;

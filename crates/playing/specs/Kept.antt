@@ -21,7 +21,7 @@ pub record RunKept (w a : List ℕ) (made : ℕ) (xs : List Call) (s : State) (d
   pub fed : fed_played w a made ≡ feed xs
   -- they begin with an accepted open
   pub begins : BeginsOpen (fed_played w a made)
-  -- each rule in the plain book of these calls and the run's own answers (`bookPlayed`) is kept in s and d, each table written over an older one equals it, each
+  -- each rule in the plain book of these calls and the run's own answers (`book_played`) is kept in s and d, each table written over an older one equals it, each
   -- walk under a pass rule in the book and each provoke of two rules in it went by the book, and what else demand 3 claims
   pub after : AfterList s d empty_book (fed_played w a made)
 

@@ -1,6 +1,7 @@
 // A list of the store's calls as words code it, made one after the other, and each answer noted (document 01, "The book beside the store"). What demand 3
 // claims of such a run is `PlayKept` in specs/Kept.antt.
 #![tactic(auto)]
+
 ghost use Rattle.std.specs.Prelude.{◌≡◌, ◌+◌, ◌*◌, ◌/◌, ◌≤◌, min, length};
 ghost use Rattle.store.specs.State.{state_of};
 ghost use Rattle.coding.specs.Coded.{call_words};

@@ -1,5 +1,6 @@
 // The body of the program that plays a rig log: from standard input to standard output.
 #![tactic(auto)]
+
 ghost use Rattle.std.specs.Prelude.{◌≡◌, false, ◌≤◌, length, take};
 ghost use Rattle.rig_console.specs.Final.{Final};
 
@@ -7,7 +8,6 @@ ghost use Rattle.rig_console.specs.Final.{Final};
 const STDIN_FILENO: i32 = 0;
 // Standard output, by its number.
 const STDOUT_FILENO: i32 = 1;
-
 
 // As many bytes as count at most: a table's rows and the line end, and one more than the longest log.
 const ENOUGH: usize = (parsing::MOST_ROWS + 1) + (replaying::MOST_LOG + 1);

@@ -1,5 +1,6 @@
 // The program that plays a rig log, given a table that ends with the input: the log is empty.
 #![tactic(auto)]
+
 fn main() {
     rig_console::run();
 }

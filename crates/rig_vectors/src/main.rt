@@ -1,6 +1,7 @@
 // The second program's rig logs, each line of standard input played by itself. A line has a table's characters, up to the first `;`, and behind it a log in
 // words that stand one blank apart (words::log). A line without `;` is an input without a line end. tests/second/log.rs says what must be written.
 #![tactic(auto)]
+
 mod assemble;
 
 use assemble::assemble;

@@ -1,4 +1,4 @@
--- "Tabulate, walk and every refused call, open too, write nothing." (document 01, "The book beside the store"; of the queries, tabulate, walk and provoke, `enterBy` says it.)
+-- "Tabulate, walk and every refused call, open too, write nothing." (document 01, "The book beside the store"; of the queries, tabulate, walk and provoke, `enter_by` says it.)
 -- Assumes nothing.
 use mathlib.Core.Path.{◌≡◌, refl, ap}
 use mathlib.Core.List.{List}

@@ -169,7 +169,7 @@ read_order file x =
     unless (past_end file (x.at + x.n) ∷ order_places x.n order ∷ [])
     (record { n = x.n; places = order; label = x.label; records = x.records; at = x.at + x.n })
 
--- "Bit 2: label, a length byte", from 1 to `longestLabel`, "then bytes 20 to 7E." "The label's length byte and the record count are fields of their own"
+-- "Bit 2: label, a length byte", from 1 to `longest_label`, "then bytes 20 to 7E." "The label's length byte and the record count are fields of their own"
 unfoldable pub read_label : List ℕ → Reading → Outcome
 read_label file x =
     let label : Part = record { start = x.at + 1; size = get_or file x.at 0 } in

@@ -12,6 +12,7 @@
 // A table is a digit for each row, row 0 first. An order is a digit for each flag, and what is not written of its ten places is 0. Cells are printed one by one
 // up to six flags, and from seven on as a sum over them.
 #![tactic(auto)]
+
 mod draw;
 mod lent;
 mod one;

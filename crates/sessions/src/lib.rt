@@ -1,5 +1,6 @@
 // A list of store calls in a test program (document 01, "The store"): how far it was played, its first line, the words of a call's line, and its end.
 #![tactic(auto)]
+
 mod beginning;
 mod ending;
 mod reading;

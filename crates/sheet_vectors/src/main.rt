@@ -6,6 +6,7 @@
 // ORDER is two digits to a byte, 0 to 9 and a to f, or `-` for none; what is not written of its ten places is 0.
 // tests/second/sheet.rs says what is printed, and the second program what it must be.
 #![tactic(auto)]
+
 use rule::Printed;
 use words::diagram::{Asked, asked_at};
 use words::lent::{each_byte_is, fill};

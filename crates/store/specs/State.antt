@@ -1,5 +1,5 @@
--- A store's state as the definitions of crate rule have it. (What its answers hand back is `doneReply`, `madeReply`, `saidReply` and `soughtReply`
--- there, and `talliedReply` in crate tallying.)
+-- A store's state as the definitions of crate rule have it. (What its answers hand back is `done_reply`, `made_reply`, `said_reply` and `sought_reply`
+-- there, and `tallied_reply` in crate tallying.)
 -- Assumes nothing.
 use Rattle.rule.specs.Calls.{State}
 use Rattle.store.specs.declared.state.Store.{Store}

@@ -183,7 +183,7 @@ module _ (cost : List ℕ → ℕ) where
   least_of_lem [] s m = absurd (not-nil m)
   least_of_lem (o ∷ os) s m = rw (first_least_lem cost o os) (first_of_lem cost Lex lex_refl lex_trans o os s)
 
-  -- `allLeast` has just the members that cost as much as it, in their sequence
+  -- `all_least` has just the members that cost as much as it, in their sequence
   all_least_in : (os : List (List ℕ)) {o : List ℕ} → In o (all_least cost os) → In o os × (cost o ≡ cost (least_of cost os))
   unfolding all_least all_at
   all_least_in os {o} m =

@@ -1,4 +1,4 @@
--- The rules of a table's nodes by their numbers (`rulesFrom` of crate rule): the two constants first, each rule once, behind its two cofactors by the flag that
+-- The rules of a table's nodes by their numbers (`rules_from` of crate rule): the two constants first, each rule once, behind its two cofactors by the flag that
 -- it asks, and all in sequence.
 -- Assumes nothing.
 use mathlib.Core.Path.{◌≡◌, refl, sym, ap, ◌∙◌, subst}

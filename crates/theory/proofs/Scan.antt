@@ -1,5 +1,5 @@
 -- What a loop over a list, over the rest of a list or over the numbers below n learns of a test of each: it fails where one fails. (That it holds where all
--- hold is `at_each` and `below_each` of Tests.antt, and `drop-holds` here.) And what a loop that counts those that pass has counted.
+-- hold is `at_each` and `below_each` of Tests.antt, and `drop_holds` here.) And what a loop that counts those that pass has counted.
 -- Assumes nothing.
 use mathlib.Core.Path.{◌≡◌, refl, sym, ap, ◌∙◌}
 use mathlib.Core.Bool.{Bool, true, false, true≢false}

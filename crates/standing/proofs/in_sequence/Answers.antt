@@ -3,7 +3,6 @@
 use Prim.Native.Nat.{◌+◌, ◌-◌, ◌<◌}
 use mathlib.Core.Path.{sym, ◌∙◌}
 use native.Mathlib.Omega.{arith}
-use borrow.Author.Tests.{not-true, not-false}
 use Rattle.standing.proofs.Stands.{standing_none, standing_more, stand, strays}
 use Rattle.standing.proofs.in_sequence.Goals as goal
 
@@ -23,11 +22,11 @@ returns-then-not-precedes c =
     let args = c.args in
     let h = c.loop-k.invariant.1 in
     let e = c.turn-levels.ensures in
-    sym (strays _ _ _ _ (c.loop-k.k - 1) (omega arith) (rw (e.0, e.1) at (sym c.precedes.ensures ∙ not-true _ c.if-not-precedes.true-raw)))
+    sym (strays _ _ _ _ (c.loop-k.k - 1) (omega arith) (rw (e.0, e.1) at (sym c.precedes.ensures ∙ c.if-not-precedes.true)))
 
 pub loop-k-preserved : goal.loop-k-preserved
 loop-k-preserved c =
-    (standing_more _ _ _ c.loop-k.invariant.1 c.loop-k.invariant.0 (sym c.precedes.ensures ∙ not-false _ c.if-not-precedes.false-raw), omega arith)
+    (standing_more _ _ _ c.loop-k.invariant.1 c.loop-k.invariant.0 (sym c.precedes.ensures ∙ c.if-not-precedes.false), omega arith)
 
 pub returns : goal.returns
 returns c =

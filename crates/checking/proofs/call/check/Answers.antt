@@ -1,7 +1,6 @@
 -- `checking::call::check` meets its contract: each way goes by the rows that passed before it.
 -- Assumes nothing.
 use native.Mathlib.Omega.{arith}
-use borrow.Author.Tests.{not-true, not-false}
 use Rattle.checking.proofs.Parts.{fit_room, sound_room, sound_smaller}
 use Rattle.checking.proofs.Refused.{rows_passed}
 use Rattle.checking.proofs.Checked.{check_refused, check_far, check_apart, check_whole}
@@ -37,7 +36,7 @@ returns-then-not-all_reached c =
     (rows_passed c.args.n c.args.order.places c.args.cells.now c.args.used c.records_refusal-refused.ensures.0 c.if-refused-ne0.false)
     c.if-used-node.false
     c.all_reached.ensures
-    (not-true _ c.if-not-all_reached.true-raw)
+    c.if-not-all_reached.true
 
 pub returns : goal.returns
 returns c =
@@ -46,4 +45,4 @@ returns c =
     (rows_passed c.args.n c.args.order.places c.args.cells.now c.args.used c.records_refusal-refused.ensures.0 c.if-refused-ne0.false)
     c.if-used-node.false
     c.all_reached.ensures
-    (not-false _ c.if-not-all_reached.false-raw)
+    c.if-not-all_reached.false

@@ -2,7 +2,6 @@
 -- Assumes nothing.
 use mathlib.Core.Path.{sym, ◌∙◌}
 use native.Mathlib.Omega.{arith}
-use borrow.Author.Tests.{not-true, not-false}
 use Rattle.checking.proofs.Parts.{fit_room}
 use Rattle.checking.proofs.Refused.{few_flags}
 use Rattle.checking.proofs.Checked.{order_refused, cells_refused, records_refused, none_refused}
@@ -22,7 +21,7 @@ returns-then-not-fit_cells c =
           c.order_refusal-refused.ensures
           c.if-refused-ne0.false
           c.fit_cells.ensures
-          (not-true _ c.if-not-fit_cells.true-raw),
+          c.if-not-fit_cells.true,
       λ e. absurd (omega arith),
     )
 
@@ -30,7 +29,7 @@ pub sound-requires : goal.sound-requires
 sound-requires c =
     let s = c.args in (
       few_flags s.n s.order.places c.order_refusal-refused.ensures c.if-refused-ne0.false,
-      fit_room _ (sym c.fit_cells.ensures ∙ not-false _ c.if-not-fit_cells.false-raw),
+      fit_room _ (sym c.fit_cells.ensures ∙ c.if-not-fit_cells.false),
       c.requires,
     )
 
@@ -41,9 +40,9 @@ returns-then-not-sound c =
           c.order_refusal-refused.ensures
           c.if-refused-ne0.false
           c.fit_cells.ensures
-          (not-false _ c.if-not-fit_cells.false-raw)
+          c.if-not-fit_cells.false
           c.sound.ensures.0
-          (not-true _ c.if-not-sound.true-raw),
+          c.if-not-sound.true,
       λ e. absurd (omega arith),
     )
 
@@ -54,8 +53,8 @@ returns c =
           c.order_refusal-refused.ensures
           c.if-refused-ne0.false
           c.fit_cells.ensures
-          (not-false _ c.if-not-fit_cells.false-raw)
+          c.if-not-fit_cells.false
           c.sound.ensures.0
-          (not-false _ c.if-not-sound.false-raw),
-      λ _. c.sound.ensures.1 (not-false _ c.if-not-sound.false-raw),
+          c.if-not-sound.false,
+      λ _. c.sound.ensures.1 c.if-not-sound.false,
     )

@@ -9,4 +9,4 @@ pub returns-then-file-lt1 : goal.returns-then-file-lt1
 returns-then-file-lt1 c = sym (get_or-eq_default c.args.file.now 0 {n = 0} (omega arith))
 
 pub overflow_cast-result : goal.overflow_cast-result
-overflow_cast-result c = omega (arith, c.shared_slice_known-1.given 0)
+overflow_cast-result c = omega (arith, c.type_inv.file 0)

@@ -1,5 +1,7 @@
 -- `cursor::field::read_flags` meets its contract: each way is a test of Head.antt.
 -- Assumes nothing.
+use mathlib.Core.Bool.{not}
+use mathlib.Core.Path.{ap}
 use native.Mathlib.Omega.{arith}
 use Rattle.rule.specs.Files.{read_flags}
 use Rattle.cursor.proofs.Stepped.{skipped, refuses, reads_on, refused_before}
@@ -11,7 +13,7 @@ returns-then-not-stands c =
     let a = c.args in
     let file = a.file.now in
     record {
-      is = skipped file a.map 0 (read_flags file) a.step c.stands.ensures c.if-not-stands.true-raw;
+      is = skipped file a.map 0 (read_flags file) a.step c.stands.ensures (ap not c.if-not-stands.true);
       before = c.requires;
     }
 
@@ -20,7 +22,7 @@ returns-then-file-at c =
     let a = c.args in
     let file = a.file.now in
     record {
-      is = refuses file a.map 0 (read_flags file) a.step c.stands.ensures c.if-not-stands.false-raw 11 c.refused.ensures (omega arith)
+      is = refuses file a.map 0 (read_flags file) a.step c.stands.ensures (ap not c.if-not-stands.false) 11 c.refused.ensures (omega arith)
           (flags_end file _ c.if-file-at.true);
       before = refused_before file 11 c.refused.ensures;
     }
@@ -30,7 +32,7 @@ returns-then-n-gt10 c =
     let a = c.args in
     let file = a.file.now in
     record {
-      is = refuses file a.map 0 (read_flags file) a.step c.stands.ensures c.if-not-stands.false-raw 1 c.refused-then-n-gt10.ensures (omega arith)
+      is = refuses file a.map 0 (read_flags file) a.step c.stands.ensures (ap not c.if-not-stands.false) 1 c.refused-then-n-gt10.ensures (omega arith)
           (flags_many file _ c.if-file-at.false c.if-n-gt10.true);
       before = refused_before file 1 c.refused-then-n-gt10.ensures;
     }
@@ -41,7 +43,7 @@ returns c =
     let file = a.file.now in
     let b = c.requires in
     record {
-      is = reads_on file a.map 0 (read_flags file) a.step c.stands.ensures c.if-not-stands.false-raw
+      is = reads_on file a.map 0 (read_flags file) a.step c.stands.ensures (ap not c.if-not-stands.false)
           (flags_read file _ c.if-file-at.false c.if-n-gt10.false c.rising-cursor.ensures);
       before = record { few = c.if-n-gt10.false; reached = omega (arith, c.if-file-at.false); label = b.label; start = b.start; none = b.none };
     }

@@ -15,9 +15,6 @@ returns-then-file-lt1 c =
     let file = c.args.file.now in
     record { is = ap (outcome_of file) c.refused.ensures ∙ sym (map_end_lem file c.if-file-lt1.true); before = refused_before file 11 c.refused.ensures }
 
-pub overflow_cast-map : goal.overflow_cast-map
-overflow_cast-map c = omega (arith, c.shared_slice_known-2-1.given 0)
-
 pub returns-then-map-ge-MAP_END : goal.returns-then-map-ge-MAP_END
 returns-then-map-ge-MAP_END c =
     let file = c.args.file.now in

@@ -1,5 +1,7 @@
 -- `fields::order::read_order` meets its contract: each way is a test of Fields.antt.
 -- Assumes nothing.
+use mathlib.Core.Bool.{not}
+use mathlib.Core.Path.{ap}
 use native.Mathlib.Omega.{arith}
 use Rattle.rule.specs.Files.{read_order}
 use Rattle.cursor.proofs.Stepped.{skipped, refuses, reads_on, refused_before}
@@ -11,7 +13,7 @@ returns-then-not-stands c =
     let a = c.args in
     let file = a.file.now in
     record {
-      is = skipped file a.map 1 (read_order file) a.step c.stands.ensures c.if-not-stands.true-raw;
+      is = skipped file a.map 1 (read_order file) a.step c.stands.ensures (ap not c.if-not-stands.true);
       before = c.requires;
     }
 
@@ -21,7 +23,7 @@ returns-then-file-at c =
     let file = a.file.now in
     let within = c.requires.reached in
     record {
-      is = refuses file a.map 1 (read_order file) a.step c.stands.ensures c.if-not-stands.false-raw 11 c.refused.ensures (omega arith)
+      is = refuses file a.map 1 (read_order file) a.step c.stands.ensures (ap not c.if-not-stands.false) 11 c.refused.ensures (omega arith)
           (order_end file _ (omega (arith, c.if-file-at.true)));
       before = refused_before file 11 c.refused.ensures;
     }
@@ -32,8 +34,8 @@ returns-then-not-fit_order c =
     let file = a.file.now in
     let within = c.requires.reached in
     record {
-      is = refuses file a.map 1 (read_order file) a.step c.stands.ensures c.if-not-stands.false-raw 4 c.refused-then-not-fit_order.ensures (omega arith)
-          (order_unfit file _ (omega (arith, c.if-file-at.false)) c.order_at-order.ensures c.fit_order.ensures c.if-not-fit_order.true-raw);
+      is = refuses file a.map 1 (read_order file) a.step c.stands.ensures (ap not c.if-not-stands.false) 4 c.refused-then-not-fit_order.ensures (omega arith)
+          (order_unfit file _ (omega (arith, c.if-file-at.false)) c.order_at-order.ensures c.fit_order.ensures (ap not c.if-not-fit_order.true));
       before = refused_before file 4 c.refused-then-not-fit_order.ensures;
     }
 
@@ -44,7 +46,7 @@ returns c =
     let b = c.requires in
     let within = b.reached in
     record {
-      is = reads_on file a.map 1 (read_order file) a.step c.stands.ensures c.if-not-stands.false-raw
-          (order_read file _ (omega (arith, c.if-file-at.false)) c.order_at-order.ensures c.fit_order.ensures c.if-not-fit_order.false-raw);
+      is = reads_on file a.map 1 (read_order file) a.step c.stands.ensures (ap not c.if-not-stands.false)
+          (order_read file _ (omega (arith, c.if-file-at.false)) c.order_at-order.ensures c.fit_order.ensures (ap not c.if-not-fit_order.false));
       before = record { few = b.few; reached = omega (arith, c.if-file-at.false); label = b.label; start = b.start; none = b.none };
     }

@@ -1,5 +1,7 @@
 -- `fields::records::read_records` meets its contract: each way is a test of Fields.antt.
 -- Assumes nothing.
+use mathlib.Core.Bool.{not}
+use mathlib.Core.Path.{ap}
 use native.Mathlib.Omega.{arith}
 use Rattle.rule.specs.Files.{read_records}
 use Rattle.cursor.proofs.Stepped.{skipped, refuses, reads_on}
@@ -12,7 +14,7 @@ returns-then-not-stands c =
     let a = c.args in
     let file = a.file.now in
     record {
-      is = skipped file a.map 3 (read_records a.cells.now file) a.step c.stands.ensures c.if-not-stands.true-raw;
+      is = skipped file a.map 3 (read_records a.cells.now file) a.step c.stands.ensures (ap not c.if-not-stands.true);
       whole = before_whole a.cells.now file a.step c.requires;
     }
 
@@ -23,7 +25,7 @@ returns-then-file-at-lt-COUNT_SIZE c =
     let cells = a.cells.now in
     let within = c.requires.reached in
     record {
-      is = refuses file a.map 3 (read_records cells file) a.step c.stands.ensures c.if-not-stands.false-raw 11 c.refused.ensures (omega arith)
+      is = refuses file a.map 3 (read_records cells file) a.step c.stands.ensures (ap not c.if-not-stands.false) 11 c.refused.ensures (omega arith)
           (records_end cells file _ (omega (arith, c.if-file-at-lt-COUNT_SIZE.true)));
       whole = refused_whole cells file 11 c.refused.ensures;
     }
@@ -35,7 +37,7 @@ returns-then-count-eq0 c =
     let cells = a.cells.now in
     let within = c.requires.reached in
     record {
-      is = refuses file a.map 3 (read_records cells file) a.step c.stands.ensures c.if-not-stands.false-raw 6 c.refused-then-count-eq0.ensures (omega arith)
+      is = refuses file a.map 3 (read_records cells file) a.step c.stands.ensures (ap not c.if-not-stands.false) 6 c.refused-then-count-eq0.ensures (omega arith)
           (records_none cells file _ (omega (arith, c.if-file-at-lt-COUNT_SIZE.false)) c.two_at-count.ensures c.if-count-eq0.true);
       whole = refused_whole cells file 6 c.refused-then-count-eq0.ensures;
     }
@@ -47,7 +49,7 @@ returns-then-room-count c =
     let cells = a.cells.now in
     let within = c.requires.reached in
     record {
-      is = refuses file a.map 3 (read_records cells file) a.step c.stands.ensures c.if-not-stands.false-raw 10 c.refused-then-room-count.ensures (omega arith)
+      is = refuses file a.map 3 (read_records cells file) a.step c.stands.ensures (ap not c.if-not-stands.false) 10 c.refused-then-room-count.ensures (omega arith)
           (records_many cells file _ (omega (arith, c.if-file-at-lt-COUNT_SIZE.false)) c.two_at-count.ensures c.if-count-eq0.false (omega (arith, c.if-room-count.true, c.room.ensures)));
       whole = refused_whole cells file 10 c.refused-then-room-count.ensures;
     }
@@ -59,7 +61,7 @@ returns-then-file-start c =
     let cells = a.cells.now in
     let within = c.requires.reached in
     record {
-      is = refuses file a.map 3 (read_records cells file) a.step c.stands.ensures c.if-not-stands.false-raw 11 c.refused-then-file-start.ensures (omega arith)
+      is = refuses file a.map 3 (read_records cells file) a.step c.stands.ensures (ap not c.if-not-stands.false) 11 c.refused-then-file-start.ensures (omega arith)
           (records_past cells file _ (omega (arith, c.if-file-at-lt-COUNT_SIZE.false)) c.two_at-count.ensures c.if-count-eq0.false (omega (arith, c.if-room-count.false, c.room.ensures))
           (omega (arith, c.if-file-at-lt-COUNT_SIZE.false, c.if-file-start.true)));
       whole = refused_whole cells file 11 c.refused-then-file-start.ensures;
@@ -73,7 +75,7 @@ returns c =
     let b = c.requires in
     let within = b.reached in
     record {
-      is = reads_on file a.map 3 (read_records cells file) a.step c.stands.ensures c.if-not-stands.false-raw
+      is = reads_on file a.map 3 (read_records cells file) a.step c.stands.ensures (ap not c.if-not-stands.false)
           (records_read_lem cells file _ (omega (arith, c.if-file-at-lt-COUNT_SIZE.false)) c.two_at-count.ensures c.if-count-eq0.false (omega (arith, c.if-room-count.false, c.room.ensures))
           (omega (arith, c.if-file-at-lt-COUNT_SIZE.false, c.if-file-start.false)));
       whole = record {

@@ -2,12 +2,12 @@
 -- Assumes nothing.
 use mathlib.Core.Path.{◌≡◌, ap, ◌∙◌}
 use mathlib.Core.List.{map}
-use Prim.Native.Nat.{ℕ, ◌+◌, ◌*◌, ◌<◌}
+use Prim.Native.Nat.{ℕ, ◌<◌}
 use native.Mathlib.Omega.{arith}
 use lib.ListN.{length}
 use Rattle.rule.specs.Bits.{below, from}
 use Rattle.rule.specs.Cells.{room, laid_in}
-use Rattle.rule.specs.Files.{record_size, record_at}
+use Rattle.rule.specs.Files.{record_at}
 use Rattle.theory.proofs.Laying.{laid-length}
 use Rattle.cells.proofs.Laid.{laid_none}
 use Rattle.laying.proofs.Laid.{laid_next}
@@ -16,9 +16,6 @@ use Rattle.laying.proofs.records.lay.Goals as goal
 pub loop-k-init : goal.loop-k-init
 unfolding from
 loop-k-init c = (omega arith, laid_none _ c.requires.2)
-
-pub overflow_cast-flag : goal.overflow_cast-flag
-overflow_cast-flag c = omega (arith, c.shared_slice_known-in-loop-k-1.given (c.args.start + c.loop-k.k * record_size))
 
 pub put-requires : goal.put-requires
 put-requires c = let a = c.args in

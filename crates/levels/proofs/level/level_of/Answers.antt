@@ -1,7 +1,6 @@
 -- `levels::level::level_of` meets its contract: the places passed name other flags.
 -- Assumes nothing.
 use native.Mathlib.Omega.{arith}
-use Rattle.theory.proofs.Times.{ten}
 use Rattle.levels.proofs.Passed.{passed_none, passed_more, level_found, level-none}
 use Rattle.levels.proofs.level.level_of.Goals as goal
 

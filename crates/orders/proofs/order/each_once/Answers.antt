@@ -1,12 +1,11 @@
 -- `orders::order::each_once` meets its contract: each flag passed stands once.
 -- Assumes nothing.
 use mathlib.Core.Path.{sym, ◌∙◌}
-use mathlib.Core.Bool.{true}
 use native.Mathlib.Nat.{not-suc-le-zero}
 use native.Mathlib.Omega.{arith}
 use borrow.Author.Count.{below_more}
 use borrow.Author.Tests.{eq-eqb, ne_eqb}
-use Rattle.rule.specs.Order.{times, each_once}
+use Rattle.rule.specs.Order.{each_once}
 use Rattle.theory.proofs.Tests.{below_each}
 use Rattle.theory.proofs.Scan.{fails_below}
 use Rattle.orders.proofs.order.each_once.Goals as goal

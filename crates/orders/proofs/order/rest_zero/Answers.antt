@@ -7,7 +7,6 @@ use borrow.Author.Tests.{eq-eqb, ne_eqb}
 use lib.Dec.{eqb}
 use Rattle.rule.specs.Order.{rest_zero}
 use Rattle.theory.proofs.Scan.{drop_fails, drop_holds}
-use Rattle.theory.proofs.Times.{ten}
 use Rattle.orders.proofs.order.rest_zero.Goals as goal
 
 pub loop-i-init : goal.loop-i-init

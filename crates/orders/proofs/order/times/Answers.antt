@@ -6,7 +6,7 @@ use native.Mathlib.Omega.{arith}
 use lib.ListN.{length, take}
 use Rattle.rule.specs.Tests.{keep}
 use Rattle.rule.specs.Order.{times}
-use Rattle.theory.proofs.Times.{ten, times_hit, times_miss}
+use Rattle.theory.proofs.Times.{times_hit, times_miss}
 use Rattle.orders.proofs.order.times.Goals as goal
 use Rattle.orders.proofs.order.times.Goals.{then-places-i, else-places-i}
 

@@ -1,7 +1,6 @@
 -- `packing::call::lent_refusal` meets its contract: each way is a case of Answer.antt.
 -- Assumes nothing.
 use mathlib.Core.Path.{sym, ◌∙◌}
-use borrow.Author.Tests.{not-true, not-false}
 use Rattle.packing.proofs.Answer.{table_refused, few_flags, cells_refused, workspace_refused, none_refused}
 use Rattle.packing.proofs.call.lent_refusal.Goals as goal
 
@@ -11,7 +10,7 @@ returns-then-refused-ne0 c =
 
 pub returns-then-not-fit_cells : goal.returns-then-not-fit_cells
 returns-then-not-fit_cells c =
-    cells_refused c.args.n c.args.table.now c.args.cells.now c.args.workspace.now c.table_refusal-refused.ensures c.if-refused-ne0.false (sym c.fit_cells.ensures ∙ not-true _ c.if-not-fit_cells.true-raw)
+    cells_refused c.args.n c.args.table.now c.args.cells.now c.args.workspace.now c.table_refusal-refused.ensures c.if-refused-ne0.false (sym c.fit_cells.ensures ∙ c.if-not-fit_cells.true)
 
 pub cell_count-requires : goal.cell_count-requires
 cell_count-requires c =
@@ -20,11 +19,11 @@ cell_count-requires c =
 pub returns-then-workspace-cell_count : goal.returns-then-workspace-cell_count
 returns-then-workspace-cell_count c =
     workspace_refused c.args.n c.args.table.now c.args.cells.now c.args.workspace.now c.table_refusal-refused.ensures c.if-refused-ne0.false c.cell_count.ensures
-    (sym c.fit_cells.ensures ∙ not-false _ c.if-not-fit_cells.false-raw)
+    (sym c.fit_cells.ensures ∙ c.if-not-fit_cells.false)
     c.if-workspace-cell_count.true
 
 pub returns : goal.returns
 returns c =
     none_refused c.args.n c.args.table.now c.args.cells.now c.args.workspace.now c.table_refusal-refused.ensures c.if-refused-ne0.false c.cell_count.ensures
-    (sym c.fit_cells.ensures ∙ not-false _ c.if-not-fit_cells.false-raw)
+    (sym c.fit_cells.ensures ∙ c.if-not-fit_cells.false)
     c.if-workspace-cell_count.false

@@ -5,7 +5,6 @@ use native.Mathlib.Nat.{not-suc-le-zero}
 use native.Mathlib.Omega.{arith}
 use borrow.Author.Count.{below_more}
 use borrow.Author.Rules.{rules}
-use borrow.Author.Tests.{not-true, not-false}
 use Rattle.rule.specs.Listing.{is_digit}
 use Rattle.theory.proofs.Scan.{fails_at}
 use Rattle.theory.proofs.Tests.{at_each}
@@ -16,11 +15,11 @@ loop-i-init c = (omega arith, λ k h. absurd (not-suc-le-zero h))
 
 pub returns-then-not-is_digit : goal.returns-then-not-is_digit
 returns-then-not-is_digit c =
-    sym (fails_at is_digit _ c.loop-i.i (search rules) (sym c.is_digit.ensures ∙ not-true _ c.if-not-is_digit.true-raw))
+    sym (fails_at is_digit _ c.loop-i.i (search rules) (sym c.is_digit.ensures ∙ c.if-not-is_digit.true))
 
 pub loop-i-preserved : goal.loop-i-preserved
 loop-i-preserved c =
-    (search rules, below_more _ _ c.loop-i.invariant.1 (sym c.is_digit.ensures ∙ not-false _ c.if-not-is_digit.false-raw))
+    (search rules, below_more _ _ c.loop-i.invariant.1 (sym c.is_digit.ensures ∙ c.if-not-is_digit.false))
 
 pub returns : goal.returns
 returns c = sym (at_each is_digit _ 0 (λ k h. c.loop-i.invariant.1 k (omega arith)))

@@ -12,8 +12,18 @@ returns-then-flags_of-gt10 c = rw (le-ltb _ _ c.if-line-gt-MOST_ROWS.false, ← 
 
 pub returns-then-not-all_digits : goal.returns-then-not-all_digits
 returns-then-not-all_digits c =
-    rw (le-ltb _ _ c.if-line-gt-MOST_ROWS.false, ← c.flags_of.ensures.0, le-ltb _ _ c.if-flags_of-gt10.false, sym c.all_digits.ensures ∙ c.if-not-all_digits.true)
+    rw (
+      le-ltb _ _ c.if-line-gt-MOST_ROWS.false,
+      ← c.flags_of.ensures.0,
+      le-ltb _ _ c.if-flags_of-gt10.false,
+      sym c.all_digits.ensures ∙ c.if-not-all_digits.true,
+    )
 
 pub returns : goal.returns
 returns c =
-    rw (le-ltb _ _ c.if-line-gt-MOST_ROWS.false, ← c.flags_of.ensures.0, le-ltb _ _ c.if-flags_of-gt10.false, sym c.all_digits.ensures ∙ c.if-not-all_digits.false)
+    rw (
+      le-ltb _ _ c.if-line-gt-MOST_ROWS.false,
+      ← c.flags_of.ensures.0,
+      le-ltb _ _ c.if-flags_of-gt10.false,
+      sym c.all_digits.ensures ∙ c.if-not-all_digits.false,
+    )

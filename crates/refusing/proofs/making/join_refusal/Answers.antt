@@ -1,6 +1,7 @@
 -- `refusing::making::join_refusal` meets its contract: each way goes by the rows that passed before it.
 -- Assumes nothing.
-use mathlib.Core.Path.{refl}
+use mathlib.Core.Bool.{not}
+use mathlib.Core.Path.{ap, refl}
 use mathlib.Core.List.{[], ◌∷◌}
 use Rattle.rule.specs.Refusals.{operator_argument}
 use Rattle.refusing.proofs.Operator.{operator, not_operator}
@@ -21,7 +22,7 @@ returns-then-not-is_operator c =
     (two_nodes s.n s.order.places s.cells.now s.used s.f s.g c.nodes_refusal-refused.ensures)
     refl
     c.if-refused-ne0.false
-    (rw (not_operator s.code c.is_operator.ensures c.if-not-is_operator.true-raw))
+    (rw (not_operator s.code c.is_operator.ensures (ap not c.if-not-is_operator.true)))
 
 pub returns : goal.returns
 returns c =
@@ -30,4 +31,4 @@ returns c =
     (two_nodes s.n s.order.places s.cells.now s.used s.f s.g c.nodes_refusal-refused.ensures)
     refl
     c.if-refused-ne0.false
-    (rw (operator s.code c.is_operator.ensures c.if-not-is_operator.false-raw))
+    (rw (operator s.code c.is_operator.ensures (ap not c.if-not-is_operator.false)))

@@ -2,7 +2,6 @@
 -- Assumes nothing.
 use mathlib.Core.Path.{refl, sym, ◌∙◌}
 use mathlib.Core.List.{[], ◌∷◌}
-use borrow.Author.Tests.{not-true, not-false}
 use Rattle.rule.specs.Refusals.{flag_count, order_places, cells}
 use Rattle.refusing.proofs.Rows.{still_refused, passed_on}
 use Rattle.refusing.proofs.plain.open_refusal.Goals as goal
@@ -18,7 +17,7 @@ returns-then-not-fit_cells c =
     passed_on (flag_count s.n ∷ order_places s.n s.order.places ∷ []) (cells s.cells.now ∷ []) c.order_refusal-refused.ensures
     refl
     c.if-refused-ne0.false
-    (rw (sym c.fit_cells.ensures ∙ not-true _ c.if-not-fit_cells.true-raw))
+    (rw (sym c.fit_cells.ensures ∙ c.if-not-fit_cells.true))
 
 pub returns : goal.returns
 returns c =
@@ -26,4 +25,4 @@ returns c =
     passed_on (flag_count s.n ∷ order_places s.n s.order.places ∷ []) (cells s.cells.now ∷ []) c.order_refusal-refused.ensures
     refl
     c.if-refused-ne0.false
-    (rw (sym c.fit_cells.ensures ∙ not-false _ c.if-not-fit_cells.false-raw))
+    (rw (sym c.fit_cells.ensures ∙ c.if-not-fit_cells.false))

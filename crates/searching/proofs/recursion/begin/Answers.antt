@@ -8,9 +8,6 @@ use Rattle.searching.proofs.recursion.begin.Goals as goal
 pub loop-i-init : goal.loop-i-init
 loop-i-init c = copied_none _ _ (sym c.requires)
 
-pub overflow_cast-stretch : goal.overflow_cast-stretch
-overflow_cast-stretch c = omega (arith, c.shared_slice_known-1.given c.loop-i.i)
-
 pub loop-i-preserved : goal.loop-i-preserved
 loop-i-preserved c = copied_more _ _ _ c.loop-i.invariant c.loop-i-test.true
 

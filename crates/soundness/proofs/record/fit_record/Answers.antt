@@ -3,6 +3,7 @@
 use mathlib.Core.Path.{◌≡◌}
 use mathlib.Core.List.{List}
 use Prim.Native.Nat.{ℕ, ◌+◌, ◌<◌}
+use native.Mathlib.Omega.{arith}
 use borrow.Author.Tests.{lt-ltb, le-ltb, eq-eqb, ne_eqb}
 use Rattle.rule.specs.Cells.{flag_at, low_at, high_at}
 use Rattle.soundness.specs.Record.{fit_record}
@@ -17,7 +18,7 @@ passed e f g h d l m =
 
 pub returns-then-levels-flag : goal.returns-then-levels-flag
 unfolding fit_record
-returns-then-levels-flag c = rw (← c.flag_at-flag.ensures, le-ltb _ _ c.if-levels-flag.true)
+returns-then-levels-flag c = rw (← c.flag_at-flag.ensures, le-ltb c.flag_at-flag.result c.args.levels.n (omega arith))
 
 pub returns-then-low-high : goal.returns-then-low-high
 unfolding fit_record
@@ -26,8 +27,8 @@ returns-then-low-high c =
       ← c.flag_at-flag.ensures,
       ← c.low_at-low.ensures,
       ← c.high_at-high.ensures,
-      lt-ltb _ _ c.if-levels-flag.false,
-      eq-eqb _ _ c.if-low-high.true,
+      lt-ltb c.flag_at-flag.result c.args.levels.n (omega arith),
+      eq-eqb c.low_at-low.result c.high_at-high.result (omega arith),
     )
 
 pub returns-then-node-low : goal.returns-then-node-low
@@ -37,9 +38,9 @@ returns-then-node-low c =
       ← c.flag_at-flag.ensures,
       ← c.low_at-low.ensures,
       ← c.high_at-high.ensures,
-      lt-ltb _ _ c.if-levels-flag.false,
-      ne_eqb _ _ c.if-low-high.false,
-      le-ltb _ _ c.if-node-low.true,
+      lt-ltb c.flag_at-flag.result c.args.levels.n (omega arith),
+      ne_eqb c.low_at-low.result c.high_at-high.result (omega arith),
+      le-ltb c.low_at-low.result (c.args.k + 2) (omega arith),
     )
 
 pub returns-then-node-high : goal.returns-then-node-high
@@ -49,34 +50,34 @@ returns-then-node-high c =
       ← c.flag_at-flag.ensures,
       ← c.low_at-low.ensures,
       ← c.high_at-high.ensures,
-      lt-ltb _ _ c.if-levels-flag.false,
-      ne_eqb _ _ c.if-low-high.false,
-      lt-ltb _ _ c.if-node-low.false,
-      le-ltb _ _ c.if-node-high.true,
+      lt-ltb c.flag_at-flag.result c.args.levels.n (omega arith),
+      ne_eqb c.low_at-low.result c.high_at-high.result (omega arith),
+      lt-ltb c.low_at-low.result (c.args.k + 2) (omega arith),
+      le-ltb c.high_at-high.result (c.args.k + 2) (omega arith),
     )
 
 pub asks_later-requires : goal.asks_later-requires
-asks_later-requires c = next_child c.requires (passed c.flag_at-flag.ensures c.low_at-low.ensures c.high_at-high.ensures c.if-levels-flag.false c.if-low-high.false c.if-node-low.false c.if-node-high.false) _ c.if-node-low.false
+asks_later-requires c = next_child c.requires (passed c.flag_at-flag.ensures c.low_at-low.ensures c.high_at-high.ensures (omega arith) (omega arith) (omega arith) (omega arith)) _ (omega arith)
 
 pub asks_later-requires-then-asks_later : goal.asks_later-requires-then-asks_later
-asks_later-requires-then-asks_later c = next_child c.requires (passed c.flag_at-flag.ensures c.low_at-low.ensures c.high_at-high.ensures c.if-levels-flag.false c.if-low-high.false c.if-node-low.false c.if-node-high.false) _ c.if-node-high.false
+asks_later-requires-then-asks_later c = next_child c.requires (passed c.flag_at-flag.ensures c.low_at-low.ensures c.high_at-high.ensures (omega arith) (omega arith) (omega arith) (omega arith)) _ (omega arith)
 
 pub returns-then-asks_later-2 : goal.returns-then-asks_later-2
 returns-then-asks_later-2 c =
-    fit_new _ _ _ _ _ _ _ (passed c.flag_at-flag.ensures c.low_at-low.ensures c.high_at-high.ensures c.if-levels-flag.false c.if-low-high.false c.if-node-low.false c.if-node-high.false)
+    fit_new _ _ _ _ _ _ _ (passed c.flag_at-flag.ensures c.low_at-low.ensures c.high_at-high.ensures (omega arith) (omega arith) (omega arith) (omega arith))
     c.asks_later.ensures
     c.if-asks_later.true
     c.asks_later-then-asks_later.ensures
     c.if-asks_later-2.true
-    (found_new (passed c.flag_at-flag.ensures c.low_at-low.ensures c.high_at-high.ensures c.if-levels-flag.false c.if-low-high.false c.if-node-low.false c.if-node-high.false) c.find.ensures)
+    (found_new {n = c.args.levels.n} (passed c.flag_at-flag.ensures c.low_at-low.ensures c.high_at-high.ensures (omega arith) (omega arith) (omega arith) (omega arith)) c.find.ensures)
 
 pub returns-else-asks_later-2 : goal.returns-else-asks_later-2
 returns-else-asks_later-2 c =
-    fit_not_high _ _ _ _ _ _ _ (passed c.flag_at-flag.ensures c.low_at-low.ensures c.high_at-high.ensures c.if-levels-flag.false c.if-low-high.false c.if-node-low.false c.if-node-high.false)
+    fit_not_high _ _ _ _ _ _ _ (passed c.flag_at-flag.ensures c.low_at-low.ensures c.high_at-high.ensures (omega arith) (omega arith) (omega arith) (omega arith))
     c.asks_later.ensures
     c.if-asks_later.true
     c.asks_later-then-asks_later.ensures
     c.if-asks_later-2.false
 
 pub returns-else-asks_later : goal.returns-else-asks_later
-returns-else-asks_later c = fit_not_low _ _ _ _ _ _ _ (passed c.flag_at-flag.ensures c.low_at-low.ensures c.high_at-high.ensures c.if-levels-flag.false c.if-low-high.false c.if-node-low.false c.if-node-high.false) c.asks_later.ensures c.if-asks_later.false
+returns-else-asks_later c = fit_not_low _ _ _ _ _ _ _ (passed c.flag_at-flag.ensures c.low_at-low.ensures c.high_at-high.ensures (omega arith) (omega arith) (omega arith) (omega arith)) c.asks_later.ensures c.if-asks_later.false

@@ -1,4 +1,4 @@
--- Of the used records those before k are sound, and entered in the index.
+-- `soundness::records::all_fit` meets its contract: each record passed is sound and entered.
 -- Assumes nothing.
 use Prim.Native.Nat.{◌-◌}
 use Rattle.rule.specs.Order.{flags}

@@ -2,13 +2,9 @@
 -- Assumes nothing.
 use mathlib.Core.Path.{sym, ◌∙◌}
 use native.Mathlib.Omega.{arith}
-use Rattle.checking.proofs.Refused.{Taken, rows_passed}
+use Rattle.checking.proofs.Refused.{rows_passed}
 use Rattle.walking.proofs.Answer.{few_used, tabulate_many, tabulate_long, tabulate_refused, tabulate_far, tabulate_start, tabulate_done}
 use Rattle.walking.proofs.call.tabulate.Goals as goal
-
--- the cells were taken
-taken : (c : goal.Else-refused-ne0) → Taken c.args.n c.args.order.places c.args.cells.now c.args.used
-taken c = rows_passed _ _ _ _ c.records_refusal-refused.ensures.0 c.if-refused-ne0.false
 
 pub returns-then-n-gt10 : goal.returns-then-n-gt10
 returns-then-n-gt10 c = tabulate_many _ _ _ _ _ _ c.if-n-gt10.true
@@ -21,15 +17,15 @@ returns-then-refused-ne0 c =
     tabulate_refused _ _ _ _ _ _ c.if-n-gt10.false (c.if-bytes-row_count.false ∙ c.row_count.ensures) c.records_refusal-refused.ensures.0 c.if-refused-ne0.true
 
 pub overflow_add-used : goal.overflow_add-used
-overflow_add-used c = omega (arith, few_used (taken c))
+overflow_add-used c = omega (arith, few_used (rows_passed _ _ _ _ c.records_refusal-refused.ensures.0 c.if-refused-ne0.false))
 
 pub returns-then-used-from : goal.returns-then-used-from
 returns-then-used-from c =
-    tabulate_far _ _ _ _ _ _ c.if-n-gt10.false (c.if-bytes-row_count.false ∙ c.row_count.ensures) (taken c) c.if-used-from.true
+    tabulate_far _ _ _ _ _ _ c.if-n-gt10.false (c.if-bytes-row_count.false ∙ c.row_count.ensures) (rows_passed _ _ _ _ c.records_refusal-refused.ensures.0 c.if-refused-ne0.false) c.if-used-from.true
 
 pub fill-requires : goal.fill-requires
-fill-requires c = tabulate_start _ _ _ _ _ _ c.if-n-gt10.false (c.if-bytes-row_count.false ∙ c.row_count.ensures) (taken c) (omega (arith, c.if-used-from.false))
+fill-requires c = tabulate_start _ _ _ _ _ _ c.if-n-gt10.false (c.if-bytes-row_count.false ∙ c.row_count.ensures) (rows_passed _ _ _ _ c.records_refusal-refused.ensures.0 c.if-refused-ne0.false) (omega (arith, c.if-used-from.false))
 
 pub returns : goal.returns
 returns c =
-    tabulate_done _ _ _ _ _ _ c.if-n-gt10.false (c.if-bytes-row_count.false ∙ c.row_count.ensures) (taken c) c.if-used-from.false c.fill.ensures
+    tabulate_done _ _ _ _ _ _ c.if-n-gt10.false (c.if-bytes-row_count.false ∙ c.row_count.ensures) (rows_passed _ _ _ _ c.records_refusal-refused.ensures.0 c.if-refused-ne0.false) c.if-used-from.false c.fill.ensures

@@ -12,9 +12,9 @@ returns-then-row_count-row c =
 pub returns-then-passing-eq0 : goal.returns-then-passing-eq0
 returns-then-passing-eq0 c =
     let a = c.args in
-    row_forbidden a.n a.cells.now a.pass a.row (omega (arith, c.row_count.ensures, c.if-row_count-row.false)) c.descend-passing.ensures.0 c.if-passing-eq0.true
+    row_forbidden a.n a.cells.now a.pass a.row (omega (arith, c.row_count.ensures, c.if-row_count-row.false)) c.descend-passing.ensures.end_value c.if-passing-eq0.true
 
 pub returns : goal.returns
 returns c =
     let a = c.args in
-    row_taken a.n a.cells.now a.pass a.row (omega (arith, c.row_count.ensures, c.if-row_count-row.false)) c.descend-passing.ensures.0 c.if-passing-eq0.false
+    row_taken a.n a.cells.now a.pass a.row (omega (arith, c.row_count.ensures, c.if-row_count-row.false)) c.descend-passing.ensures.end_value c.if-passing-eq0.false

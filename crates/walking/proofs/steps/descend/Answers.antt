@@ -6,17 +6,6 @@ use Rattle.theory.proofs.Bits.{bit_lt}
 use Rattle.walking.proofs.Walked.{starts, ends, Steps, child_steps, next_smaller, count_lt, goes_on}
 use Rattle.walking.proofs.steps.descend.Goals as goal
 
--- the flag that was read is below ten
-flag_lt : (c : goal.After-flag-at) → c.flag_at.result < 10
-flag_lt c =
-    omega (arith, c.flag_at.ensures, c.before.before.before.before.requires.flags (c.before.before.loop.m - 2) (omega (arith, c.before.before.loop.invariant.0)))
-
--- the step to the child
-steps : (c : goal.After-child-m)
-    → Steps c.args.cells.now c.args.used c.args.node c.args.row c.loop-m.m c.flag_at-flag.result c.child-m.result
-steps c =
-    child_steps c.requires c.loop-m-test.true c.loop-m.invariant.0 c.flag_at-flag.ensures c.bit-value.ensures c.child-m.ensures
-
 pub loop-m-init : goal.loop-m-init
 loop-m-init c = (c.requires.node, starts _ _ _ (omega arith) (omega arith))
 
@@ -24,7 +13,8 @@ pub flag_at-flag-requires : goal.flag_at-flag-requires
 flag_at-flag-requires c = omega (arith, c.requires.fits, c.loop-m.invariant.0)
 
 pub bit-value-requires : goal.bit-value-requires
-bit-value-requires c = flag_lt c
+-- the flag that was read is below ten
+bit-value-requires c = omega (arith, c.flag_at-flag.ensures, c.requires.flags (c.loop-m.m - 2) (omega (arith, c.loop-m.invariant.0)))
 
 pub child-m-requires : goal.child-m-requires
 child-m-requires c = omega (arith, c.requires.fits, c.loop-m.invariant.0)
@@ -33,20 +23,20 @@ child-m-requires c = omega (arith, c.requires.fits, c.loop-m.invariant.0)
 pub set_bit-asked-requires : goal.set_bit-asked-requires
 set_bit-asked-requires c = (
   c.loop-m.invariant.1.ten,
-  flag_lt read,
+  omega (arith, c.flag_at-flag.ensures, c.requires.flags (c.loop-m.m - 2) (omega (arith, c.loop-m.invariant.0))),
   omega (arith, c.bit-value.ensures, bit_lt c.args.row c.flag_at-flag.result),
 )
 
 pub overflow_add-count : goal.overflow_add-count
-overflow_add-count c = omega (arith, count_lt (steps c) c.loop-m.invariant.1)
+overflow_add-count c = omega (arith, count_lt (child_steps c.requires c.loop-m-test.true c.loop-m.invariant.0 c.flag_at-flag.ensures c.bit-value.ensures c.child-m.ensures) c.loop-m.invariant.1)
 
 pub loop-m-smaller : goal.loop-m-smaller
-loop-m-smaller c = next_smaller (steps c)
+loop-m-smaller c = next_smaller (child_steps c.requires c.loop-m-test.true c.loop-m.invariant.0 c.flag_at-flag.ensures c.bit-value.ensures c.child-m.ensures)
 
 pub loop-m-preserved : goal.loop-m-preserved
 loop-m-preserved c =
     let at = c.loop-m in
-    (omega (arith, loop-less c, at.invariant.0), goes_on (steps c) at.invariant.1 c.set_bit-asked.ensures)
+    (omega (arith, next_smaller (child_steps c.requires c.loop-m-test.true c.loop-m.invariant.0 c.flag_at-flag.ensures c.bit-value.ensures c.child-m.ensures), at.invariant.0), goes_on (child_steps c.requires c.loop-m-test.true c.loop-m.invariant.0 c.flag_at-flag.ensures c.bit-value.ensures c.child-m.ensures) at.invariant.1 c.set_bit-asked.ensures)
 
 pub returns : goal.returns
-returns c = let (end, asked, count) = ends c.loop-m.invariant.1 (omega (arith, c.loop-m-test.false)) in (end, (asked, count))
+returns c = let (end, asked, count) = ends c.loop-m.invariant.1 (omega (arith, c.loop-m-test.false)) in record { end_value = end; asked_value = asked; count_value = count }

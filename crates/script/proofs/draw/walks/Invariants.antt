@@ -1,0 +1,10 @@
+-- `script::draw::walks` meets its contract: it counts up to 2,048.
+-- Assumes nothing.
+use Prim.Native.Nat.{◌-◌, ◌≤◌}
+use Rattle.script.proofs.draw.walks.Given as goal
+
+abbrev pub invariant-loop-row : goal.invariant-loop-row
+invariant-loop-row l = (l.row ≤ 2048)
+
+abbrev pub decreases-loop-row : goal.decreases-loop-row
+decreases-loop-row l = 2048 - l.row
