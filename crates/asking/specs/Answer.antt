@@ -22,19 +22,19 @@ reached_reply r = answer_reply r.tally r.answer
 
 -- the kinds of answer: none but that the call is done, a rule's node, what a rule says of a row, a row that is sought, the tally of a log
 pub data Kind : Type 0 where
-  done-kind made-kind said-kind sought-kind tallied-kind : Kind
+  done_kind made_kind said_kind sought_kind tallied_kind : Kind
 
 abbrev pub answer_kind : Answer → Kind
-answer_kind (the-answer.Done a) = done-kind
-answer_kind (the-answer.Made a) = made-kind
-answer_kind (the-answer.Said a) = said-kind
-answer_kind (the-answer.Sought a) = sought-kind
-answer_kind (the-answer.Tallied a) = tallied-kind
+answer_kind (the-answer.Done a) = done_kind
+answer_kind (the-answer.Made a) = made_kind
+answer_kind (the-answer.Said a) = said_kind
+answer_kind (the-answer.Sought a) = sought_kind
+answer_kind (the-answer.Tallied a) = tallied_kind
 
 -- an answer of any other kind has no tally beside it
 abbrev pub Beside : Kind → Tally → Type 0
-Beside done-kind t = t ≡ no_tally
-Beside made-kind t = t ≡ no_tally
-Beside said-kind t = t ≡ no_tally
-Beside sought-kind t = t ≡ no_tally
-Beside tallied-kind t = Unit {0}
+Beside done_kind t = t ≡ no_tally
+Beside made_kind t = t ≡ no_tally
+Beside said_kind t = t ≡ no_tally
+Beside sought_kind t = t ≡ no_tally
+Beside tallied_kind t = Unit {0}

@@ -8,7 +8,7 @@ use Rattle.store.specs.State.{state_of}
 use Rattle.asking.specs.declared.answers.Reached.{Reached}
 use Rattle.asking.specs.declared.queries.Query.{Query}
 use Rattle.asking.specs.declared.queries.Query.TheVariants as the-query
-use Rattle.asking.specs.Answer.{reached_reply, Kind, done-kind, said-kind, sought-kind, tallied-kind, answer_kind, Beside}
+use Rattle.asking.specs.Answer.{reached_reply, Kind, done_kind, said_kind, sought_kind, tallied_kind, answer_kind, Beside}
 
 -- a call that makes no rule, by its name in Results.antt
 abbrev pub query_of : Query → PaperQuery
@@ -27,10 +27,10 @@ query_part (the-query.Replay m pass length) = length
 
 -- the kind of answer that belongs to it
 abbrev pub query_kind : Query → Kind
-query_kind (the-query.Tabulate m length) = done-kind
-query_kind (the-query.Walk m pass row) = said-kind
-query_kind (the-query.Provoke m wanted p fixed ones) = sought-kind
-query_kind (the-query.Replay m pass length) = tallied-kind
+query_kind (the-query.Tabulate m length) = done_kind
+query_kind (the-query.Walk m pass row) = said_kind
+query_kind (the-query.Provoke m wanted p fixed ones) = sought_kind
+query_kind (the-query.Replay m pass length) = tallied_kind
 
 -- one query, from state s, cells c and bytes b: it met its contract, its answer is of the kind that belongs to it, with no tally beside it but a
 -- log's, and bytes behind those that it was lent are as found

@@ -8,7 +8,7 @@ use Rattle.asking.specs.declared.requests.Making.{Making}
 use Rattle.asking.specs.declared.requests.Making.TheVariants as the-making
 use Rattle.asking.specs.declared.requests.Request.{Request}
 use Rattle.asking.specs.declared.requests.Request.TheVariants as the-request
-use Rattle.asking.specs.Answer.{Kind, done-kind, made-kind}
+use Rattle.asking.specs.Answer.{Kind, done_kind, made_kind}
 use Rattle.asking.specs.Query.{query_of, query_part, query_kind}
 
 -- a call that makes a rule with records, by its name in Results.antt
@@ -34,7 +34,7 @@ part (the-request.Ask q) = query_part q
 
 -- the kind of answer that belongs to it
 abbrev pub request_kind : Request → Kind
-request_kind the-request.Open = done-kind
-request_kind (the-request.Constant v) = made-kind
-request_kind (the-request.Make x) = made-kind
+request_kind the-request.Open = done_kind
+request_kind (the-request.Constant v) = made_kind
+request_kind (the-request.Make x) = made_kind
 request_kind (the-request.Ask q) = query_kind q
