@@ -23,6 +23,11 @@ pub record Taken (input : List ℕ) (end : ℕ) : Type 0 where
   pub up_to : take end input ≡ (read_line input).0
   pub passes : refusal (line_rows (take (end - 0) input)) ≡ 0
 
+-- a line that was found and passed its tests
+pub line_taken : (input : List ℕ) (end k : ℕ) → (end ≤ length input) × (take end input ≡ (read_line input).0)
+    → k ≡ refusal (line_rows (take (end - 0) input)) → k ≡ 0 → Taken input end
+line_taken input end k found is zero = record { within = found.0; up_to = found.1; passes = sym is ∙ zero }
+
 module _ {input : List ℕ} {end : ℕ} (x : Taken input end) where
   abbrev line : List ℕ
   line = take (end - 0) input
