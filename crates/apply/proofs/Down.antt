@@ -24,8 +24,7 @@ use Rattle.theory.proofs.Growth.{grows_none, older, older_level}
 use Rattle.theory.proofs.Descents.{child_end, child_record, comes}
 use Rattle.levels.specs.declared.level.Levels.{Levels}
 use Rattle.unique.specs.declared.node.Grown.{Grown}
-use Rattle.unique.specs.declared.node.Found.{Found}
-use Rattle.unique.specs.declared.node.Found.TheVariants.{At, Full}
+use Rattle.std.specs.Prelude.{Option, Some, None}
 use Rattle.record_index.specs.Index.{Indexed}
 use Rattle.unique.specs.Node.{grown, MakesAbove}
 use Rattle.unique.specs.Search.{FoundAs, Grew}
@@ -48,7 +47,7 @@ module _ {l : Levels} {c index : List ℕ} {used : ℕ} (r : Ready l c used inde
 
   pub stands : {at m : ℕ} → From l c used at m → Stands l c m
   stands x =
-      record { turned = r.turned; node = omega (arith, x.node, r.is_sound.fits); flag = λ g. r.is_sound.flag _ (omega (arith, x.node)) }
+      record { node = omega (arith, x.node, r.is_sound.fits); flag = λ g. r.is_sound.flag _ (omega (arith, x.node)) }
 
   -- a record's flag has its level
   pub asks : {at m v : ℕ} → From l c used at m → 2 ≤ m → v ≡ flag_at c (record_of m) → (v < l.n) × (lev l v ≡ lev_of l c m) × (lev l v < l.n)
@@ -135,7 +134,6 @@ module _ {l : Levels} {t c d index next : List ℕ} {at used : ℕ} {p : Grown} 
   pub grown_ready : Ready l d p.used next
   grown_ready =
       record {
-        turned = r.turned;
         order_fits = r.order_fits;
         is_sound = x.grew.grows.is_sound;
         small = omega (arith, r.small, x.grew.grows.lent);
@@ -163,15 +161,15 @@ module _ {l : Levels} {t c d index next : List ℕ} {at used : ℕ} {p : Grown} 
 grew_later : {n used k at : ℕ} {order t c d : List ℕ} {goal : List (List ℕ)} {r : Grown} → at ≤ k → Grew n order goal k t c used r d → Grew n order goal at t c used r d
 grew_later {n} {used} {k} {at} {order} {t} {c} {d} {goal} {r} h x = record { grows = x.grows; is = go r.found x.is }
   where
-    go : (f : Found) → FoundAs f n order goal k t d r.used → FoundAs f n order goal at t d r.used
-    go (At m) y = record { node = y.node; table = y.table; later = omega (arith, y.later) }
-    go Full y = y
+    go : (f : Option ℕ) → FoundAs f n order goal k t d r.used → FoundAs f n order goal at t d r.used
+    go (Some m) y = record { node = y.node; table = y.table; later = omega (arith, y.later) }
+    go None y = y
 
 module _ {l : Levels} {t c : List ℕ} {at top v used : ℕ} (s : Split l.n l.order.places top v t) (h : at ≤ top) where
   module _ {u d i : List ℕ} {p : Grown} {k : ℕ} (low_is : u ≡ cofactor v 0 t) (a : Comes l u k c used p d i) where
-    pub full_low : p.found ≡ Full → Comes l t at c used p d i
+    pub full_low : p.found ≡ None → Comes l t at c used p d i
     full_low e = record { grew = grew_later h (no_room_low s low_is e a.grew); indexed = a.indexed }
 
-    pub made : {w e j : List ℕ} {q : Grown} {m : ℕ} → w ≡ cofactor v 1 t → Comes l w m d p.used q e j → top < k → top < m → {low : ℕ} → p.found ≡ At low
+    pub made : {w e j : List ℕ} {q : Grown} {m : ℕ} → w ≡ cofactor v 1 t → Comes l w m d p.used q e j → top < k → top < m → {low : ℕ} → p.found ≡ Some low
         → {r : Grown} {f n : List ℕ} → MakesAbove e v low q r f × Indexed f r.used n → Comes l t at c used r f n
     made high_is b x y at_low (g, z) = record { grew = grew_later h (both_branches s low_is high_is a.grew b.grew x y at_low g); indexed = z }

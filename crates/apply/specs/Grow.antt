@@ -7,14 +7,12 @@ use Rattle.rule.specs.Cells.{most_records, room}
 use Rattle.theory.specs.Level.{level_of}
 use Rattle.theory.specs.Shape.{Shaped}
 use Rattle.levels.specs.declared.level.Levels.{Levels}
-use Rattle.levels.specs.Level.{Turned}
 use Rattle.unique.specs.declared.node.Grown.{Grown}
 use Rattle.record_index.specs.Index.{Indexed}
 use Rattle.unique.specs.Search.{Grew}
 
 -- a fit order turned round, and sound cells whose records are entered in the index
 pub record Ready (l : Levels) (c : List ℕ) (used : ℕ) (index : List ℕ) : Type 0 where
-  pub turned : Turned l
   pub order_fits : fit_order l.n l.order.places ≡ true
   pub is_sound : Shaped l.n l.order.places c used
   pub small : room c ≤ most_records

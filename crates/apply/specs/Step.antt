@@ -4,11 +4,9 @@ use Rattle.std.specs.Prelude.{Bool, not, cond, ◌&&◌, List, ℕ, ◌+◌, ◌
 use Rattle.rule.specs.Cells.{room, flag_at, record_of, is_end}
 use Rattle.theory.specs.Level.{level_of}
 use Rattle.levels.specs.declared.level.Levels.{Levels}
-use Rattle.levels.specs.Level.{Turned}
 
 -- a node whose level can be told
 pub record Stands (l : Levels) (c : List ℕ) (m : ℕ) : Type 0 where
-  pub turned : Turned l
   pub node : m ≤ room c + 1
   pub flag : 2 ≤ m → flag_at c (record_of m) < l.n
 

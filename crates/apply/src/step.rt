@@ -8,6 +8,7 @@ ghost use Rattle.apply.specs.Step.{Stands, asks_same, earlier};
 use levels::Levels;
 
 // The level of a node: that of the flag that it asks, n for an end node.
+#[tactic(auto, unfolding(theory::specs::Level::level_of))]
 pub fn level_of(levels: Levels, cells: &[u16], m: u16) -> u8
     requires { Stands levels cells.now m }
     ensures { result ≡ level_of levels.n levels.order.places cells.now m }
@@ -19,31 +20,25 @@ pub fn level_of(levels: Levels, cells: &[u16], m: u16) -> u8
 }
 
 // Whether two nodes are records that ask one flag.
+#[tactic(auto, unfolding(crate::specs::Step::asks_same))]
 fn asks_same(cells: &[u16], f: u16, g: u16) -> bool
     requires { (f ≤ room cells.now + 1) × (g ≤ room cells.now + 1) }
     ensures { result ≡ asks_same cells.now f g }
 {
-    if f < 2 {
-        return false;
-    }
-    if g < 2 {
-        return false;
-    }
-    cells::flag_at(cells, f - 2) == cells::flag_at(cells, g - 2)
+    2 <= f && 2 <= g && cells::flag_at(cells, f - 2) == cells::flag_at(cells, g - 2)
 }
 
 // The one of two nodes that stands at the earlier level, the first where they stand at one. Where both ask one flag no level is looked up.
+#[tactic(auto, unfolding(crate::specs::Step::earlier, crate::specs::Step::asks_same, theory::specs::Level::level_of))]
 pub fn earlier(levels: Levels, cells: &[u16], f: u16, g: u16) -> u16
     requires { Stands levels cells.now f × Stands levels cells.now g }
     ensures { result ≡ earlier levels.n levels.order.places cells.now f g }
 {
-    if asks_same(cells, f, g) {
-        return f;
+    if asks_same(cells, f, g) || level_of(levels, cells, f) <= level_of(levels, cells, g) {
+        f
+    } else {
+        g
     }
-    if level_of(levels, cells, f) <= level_of(levels, cells, g) {
-        return f;
-    }
-    g
 }
 
 // The nodes that a node comes to where a flag is 0 and where it is 1.
@@ -54,6 +49,7 @@ pub struct Branches {
 }
 
 // The nodes that m comes to by a flag: its children if it asks the flag, else itself. Its fields are read before the test, which then needs no jump.
+#[tactic(auto, unfolding(theory::specs::Child::child))]
 pub fn both_branches(cells: &[u16], flag: u16, m: u16) -> Branches
     requires { m ≤ room cells.now + 1 }
     ensures { (result.no ≡ child cells.now flag 0 m) × (result.yes ≡ child cells.now flag 1 m) }
@@ -71,6 +67,7 @@ pub fn both_branches(cells: &[u16], flag: u16, m: u16) -> Branches
 }
 
 // The node that m comes to where a flag has a value.
+#[tactic(auto, unfolding(theory::specs::Child::child))]
 pub fn branch(cells: &[u16], flag: u16, value: u16, m: u16) -> u16
     requires { m ≤ room cells.now + 1 }
     ensures { result ≡ child cells.now flag value m }

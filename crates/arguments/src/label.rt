@@ -6,16 +6,5 @@ ghost use Rattle.rule.specs.Files.{printable};
 pub fn all_printable(bytes: &[u8]) -> bool
     ensures { result ≡ each printable bytes.now }
 {
-    let mut i = 0;
-    while i < bytes.len() {
-        let b = bytes[i];
-        if b < 0x20 {
-            return false;
-        }
-        if 0x7E < b {
-            return false;
-        }
-        i += 1;
-    }
-    true
+    bytes.iter().all(|&b| 0x20 <= b && b <= 0x7E)
 }

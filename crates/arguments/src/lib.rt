@@ -5,4 +5,4 @@ mod label;
 mod table;
 
 pub use label::all_printable;
-pub use table::{row_count, table_refusal};
+pub use table::{row_count, test_table};

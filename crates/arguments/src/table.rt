@@ -1,6 +1,9 @@
 ghost use Rattle.std.specs.Prelude.{◌≡◌, [], ◌∷◌, ◌^◌, ◌≤◌};
 ghost use Rattle.rule.specs.Table.{fit_rows};
+ghost use Rattle.rule.specs.Answers.{test_number};
 ghost use Rattle.rule.specs.Refusals.{refusal, flag_count, table_length, table_read};
+
+use rule::Refusal;
 
 // The rows of a table of n flags.
 pub fn row_count(n: u8) -> usize
@@ -14,28 +17,21 @@ pub fn row_count(n: u8) -> usize
 fn fit_rows(table: &[u8]) -> bool
     ensures { result ≡ fit_rows table.now }
 {
-    let mut i = 0;
-    while i < table.len() {
-        if 2 <= table[i] {
-            return false;
-        }
-        i += 1;
-    }
-    true
+    table.iter().all(|&b| b < 2)
 }
 
-// The refusal of a flag count and a table, 0 for none: 1, 2, then 3.
-pub fn table_refusal(n: u8, table: &[u8]) -> u8
-    ensures { result ≡ refusal (flag_count n ∷ table_length n table.now ∷ table_read table.now ∷ []) }
+// The tests of a flag count and a table: 1, 2, then 3.
+pub fn test_table(n: u8, table: &[u8]) -> Result<(), Refusal>
+    ensures { test_number result ≡ refusal (flag_count n ∷ table_length n table.now ∷ table_read table.now ∷ []) }
 {
     if 10 < n {
-        return 1;
+        return Err(Refusal::FlagCount);
     }
     if table.len() != row_count(n) {
-        return 2;
+        return Err(Refusal::TableLength);
     }
-    if fit_rows(table) {
-        return 0;
+    if !fit_rows(table) {
+        return Err(Refusal::TableByte);
     }
-    3
+    Ok(())
 }

@@ -8,7 +8,7 @@ use Rattle.store.specs.State.{state_of}
 use Rattle.asking.specs.declared.answers.Reached.{Reached}
 use Rattle.asking.specs.declared.queries.Query.{Query}
 use Rattle.asking.specs.declared.queries.Query.TheVariants as the-query
-use Rattle.asking.specs.Answer.{reached_reply, Kind, done_kind, said_kind, sought_kind, tallied_kind, answer_kind, Beside}
+use Rattle.asking.specs.Answer.{reached_reply, Kind, done_kind, said_kind, sought_kind, tallied_kind, answer_kind}
 
 -- a call that makes no rule, by its name in Results.antt
 abbrev pub query_of : Query → PaperQuery
@@ -32,10 +32,9 @@ query_kind (the-query.Walk m pass row) = said_kind
 query_kind (the-query.Provoke m wanted p fixed ones) = sought_kind
 query_kind (the-query.Replay m pass length) = tallied_kind
 
--- one query, from state s, cells c and bytes b: it met its contract, its answer is of the kind that belongs to it, with no tally beside it but a
--- log's, and bytes behind those that it was lent are as found
+-- one query, from state s, cells c and bytes b: it met its contract, its answer is of the kind that belongs to it, and bytes behind those that it was lent
+-- are as found
 pub record Answers (q : Query) (s : State) (c b : List ℕ) (r : Reached) (b' : List ℕ) : Type 0 where
   pub met : Ask s c (query_of q) (take (query_part q) b) (reached_reply r) (state_of r.store) (take (query_part q) b')
   pub kind : answer_kind r.answer ≡ query_kind q
-  pub beside : Beside (query_kind q) r.tally
   pub behind : drop (query_part q) b' ≡ drop (query_part q) b

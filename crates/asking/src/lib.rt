@@ -5,6 +5,6 @@ mod answers;
 mod queries;
 mod requests;
 
-pub use answers::{Answer, Reached, done, made};
+pub use answers::{Answer, Reached, answered};
 pub use queries::{Query, ask};
 pub use requests::{Making, Request};

@@ -6,9 +6,10 @@ ghost use Rattle.tallying.specs.Tally.{tallied_reply};
 ghost use Rattle.store.specs.State.{state_of};
 ghost use Rattle.asking.specs.Query.{Answers};
 
-use crate::answers::{Reached, done, said, sought, tallied};
-use rule::{Node, Pass};
-use store::{Passed, Replayed, Store};
+use crate::answers::{Answer, Reached, answered};
+use rule::Node;
+use store::{Kept, Store};
+use tallying::Tally;
 
 // A call that makes no rule, with its arguments.
 #[derive(Clone, Copy)]
@@ -20,7 +21,7 @@ pub enum Query {
     },
     Walk {
         rule: Node,
-        pass: Pass,
+        pass: Option<Node>,
         row: u16,
     },
     Provoke {
@@ -33,13 +34,13 @@ pub enum Query {
     // The log is so many of the lent bytes, from the first on.
     Replay {
         rule: Node,
-        pass: Pass,
+        pass: Option<Node>,
         length: u16,
     },
 }
 
 // Tabulate into so many of the lent bytes, from the first on: into all, where there are fewer.
-fn tabulated(store: Store, cells: &[u16], rule: Node, length: u16, bytes: &mut [u8]) -> Passed
+fn tabulated(store: Store, cells: &[u16], rule: Node, length: u16, bytes: &mut [u8]) -> Kept<()>
     ensures tabulate { Tabulate (state_of store) cells.now rule.number (take length bytes.old) (done_reply result.answer) (state_of result.store) (take length bytes.new) }
     ensures bytes_unchanged { drop length bytes.new ≡ drop length bytes.old }
 {
@@ -55,11 +56,11 @@ fn replayed(
     store: Store,
     cells: &[u16],
     rule: Node,
-    pass: Pass,
+    pass: Option<Node>,
     length: u16,
     bytes: &[u8],
-) -> Replayed
-    ensures { Replay (state_of store) cells.now rule.number (pass_of pass) (take length bytes.now) (tallied_reply result.tally result.answer) (state_of result.store) }
+) -> Kept<Tally>
+    ensures { Replay (state_of store) cells.now rule.number (pass_of pass) (take length bytes.now) (tallied_reply result.answer) (state_of result.store) }
 {
     let size = length as usize;
     if bytes.len() <= size {
@@ -73,17 +74,27 @@ pub fn ask(store: Store, cells: &[u16], query: Query, bytes: &mut [u8]) -> Reach
     ensures { Answers query (state_of store) cells.now bytes.old result bytes.new }
 {
     match query {
-        Query::Tabulate { rule, length } => done(tabulated(store, cells, rule, length, bytes)),
-        Query::Walk { rule, pass, row } => said(store.walk(cells, rule, pass, row)),
+        Query::Tabulate { rule, length } => answered(
+            tabulated(store, cells, rule, length, bytes),
+            Answer::Done,
+        ),
+        Query::Walk { rule, pass, row } => answered(
+            store.walk(cells, rule, pass, row),
+            Answer::Said,
+        ),
         Query::Provoke {
             rule,
             wanted,
             pass,
             fixed,
             ones,
-        } => sought(store.provoke(cells, rule, wanted, pass, fixed, ones)),
-        Query::Replay { rule, pass, length } => {
-            tallied(replayed(store, cells, rule, pass, length, bytes))
-        }
+        } => answered(
+            store.provoke(cells, rule, wanted, pass, fixed, ones),
+            Answer::Sought,
+        ),
+        Query::Replay { rule, pass, length } => answered(
+            replayed(store, cells, rule, pass, length, bytes),
+            Answer::Tallied,
+        ),
     }
 }

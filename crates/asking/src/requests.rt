@@ -22,7 +22,7 @@ pub enum Making {
     },
 }
 
-// One of the ten calls with its arguments. (The state that open is given stands beside it: an enum holds no array.)
+// One of the ten calls with its arguments; the state that open is given stands beside it.
 #[derive(Clone, Copy)]
 pub enum Request {
     Open,

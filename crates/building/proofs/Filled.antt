@@ -19,7 +19,7 @@ use Rattle.theory.proofs.Sound.{sound_cleared}
 use Rattle.theory.proofs.Reach.{Diagram, view_diagram, root_by_lem}
 use Rattle.theory.proofs.Counting.{node_reached, used_size}
 use Rattle.theory.proofs.Needed.{needed_size}
-use Rattle.unique.specs.declared.node.Found.TheVariants.{Full}
+use Rattle.std.specs.Prelude.{None}
 use Rattle.unique.specs.Node.{grown}
 use Rattle.unique.specs.Search.{Grew}
 use Rattle.unique.proofs.Settled.{unsettled}
@@ -70,7 +70,7 @@ module _ {n : ℕ} {t order c : List ℕ} (f : Fits n t order c) where
         }
 
   -- the table's diagram needs more records than there is room for
-  module _ {used : ℕ} {d : List ℕ} (a : Grew n order (nodes_of (flags n order) t) 0 t (replicate (length c) 0) 0 (record { used = used; found = Full }) d) where
+  module _ {used : ℕ} {d : List ℕ} (a : Grew n order (nodes_of (flags n order) t) 0 t (replicate (length c) 0) 0 (record { used = used; found = None }) d) where
     pub exceeds : room c < size (flags n order) t
     exceeds =
         omega (

@@ -1,6 +1,6 @@
 -- What filling lent cells with a diagram is given and leaves.
 -- Assumes nothing.
-use Rattle.std.specs.Prelude.{◌≡◌, true, List, ℕ, ◌^◌, ◌≤◌, ◌<◌, length}
+use Rattle.std.specs.Prelude.{◌≡◌, true, List, ℕ, ◌^◌, ◌≤◌, ◌<◌, length, Option, Some, None}
 use Rattle.rule.specs.Table.{fit_rows}
 use Rattle.rule.specs.Level.{size}
 use Rattle.rule.specs.Order.{flags, fit_order}
@@ -8,8 +8,6 @@ use Rattle.rule.specs.Cells.{most_cells, room}
 use Rattle.rule.specs.Results.{root_by}
 use Rattle.rule.specs.Sequence.{drawing}
 use Rattle.unique.specs.declared.node.Grown.{Grown}
-use Rattle.unique.specs.declared.node.Found.{Found}
-use Rattle.unique.specs.declared.node.Found.TheVariants.{At, Full}
 
 -- a table, an order and cells that passed the tests of build
 pub record Fits (n : ℕ) (t order c : List ℕ) : Type 0 where
@@ -31,9 +29,9 @@ pub record Unfilled (n : ℕ) (t order c d : List ℕ) : Type 0 where
   pub exceeds : room c < size (flags n order) t
   pub kept : d ≡ c
 
-abbrev pub FillsBy : Found → ℕ → List ℕ → List ℕ → List ℕ → ℕ → List ℕ → Type 0
-FillsBy (At root) n t order c used d = Filled n t order c used root d
-FillsBy Full n t order c used d = Unfilled n t order c d
+abbrev pub FillsBy : Option ℕ → ℕ → List ℕ → List ℕ → List ℕ → ℕ → List ℕ → Type 0
+FillsBy (Some root) n t order c used d = Filled n t order c used root d
+FillsBy None n t order c used d = Unfilled n t order c d
 
 abbrev pub Fills : ℕ → List ℕ → List ℕ → List ℕ → Grown → List ℕ → Type 0
 Fills n t order c r d = FillsBy r.found n t order c r.used d

@@ -1,12 +1,12 @@
 -- Cells that are cleared from one place up to another.
 -- Assumes nothing.
-use mathlib.Core.Path.{◌≡◌, refl, sym, ap, ◌∙◌}
+use mathlib.Core.Path.{◌≡◌, sym, ap, ◌∙◌}
 use mathlib.Core.List.{List, ◌++◌}
 use Prim.Native.Nat.{ℕ, ◌+◌, ◌-◌, ◌*◌, ◌≤◌, ◌<◌}
 use native.Mathlib.Decide.{dec_lt}
 use native.Mathlib.Omega.{arith}
-use lib.ListN.{length, get_or, take, set, replicate, length-set, length-append, length-replicate, get_or-replicate, get_or-append}
-use lib.Seq.{ext_get_or, length-take-le, get_or-take, get_or-append-add, get_or-set_same, get_or-set_other}
+use lib.ListN.{length, get_or, take, replicate, length-append, length-replicate, get_or-replicate, get_or-append}
+use lib.Seq.{ext_get_or, length-take-le, get_or-take, get_or-append-add}
 use Rattle.rule.specs.Cells.{width}
 use Rattle.rule.proofs.Zeros.{zero_at}
 use Rattle.cells.specs.Record.{clear_from}
@@ -18,26 +18,6 @@ pub record Cleared (c : List ℕ) (a i : ℕ) (d : List ℕ) : Type 0 where
   pub lent : length d ≡ length c
   pub before : (j : ℕ) → j < a → get_or d j 0 ≡ get_or c j 0
   pub zeros : (j : ℕ) → a ≤ j → j < i → get_or d j 0 ≡ 0
-
-pub cleared_none : (c : List ℕ) (a : ℕ) → a ≤ length c → Cleared c a a c
-cleared_none c a h =
-    record { from_a = omega arith; within = h; lent = refl; before = λ j k. refl; zeros = λ j k l. absurd (omega arith) }
-
-pub cleared_more : (c : List ℕ) (a i : ℕ) (d : List ℕ) → Cleared c a i d → i < length d → Cleared c a (i + 1) (set d i 0)
-cleared_more c a i d s h =
-    let e = s.lent in
-    let f = s.from_a in
-    record {
-      from_a = omega arith;
-      within = omega arith;
-      lent = length-set d i 0 ∙ e;
-      before = λ j k. get_or-set_other d i j 0 0 (omega arith) ∙ s.before j k;
-      zeros = λ j k l. go j k l (dec_lt j i);
-    }
-  where
-    go : (j : ℕ) → a ≤ j → j < i + 1 → Dec (j < i) → get_or (set d i 0) j 0 ≡ 0
-    go j k l (yes b) = get_or-set_other d i j 0 0 (omega arith) ∙ s.zeros j k b
-    go j k l (no b) = let e : i ≡ j = omega arith in ap (λ (x : ℕ). get_or (set d i 0) x 0) (sym e) ∙ get_or-set_same d i 0 0 h
 
 pub cleared_all : (c : List ℕ) (k i : ℕ) (d : List ℕ) → Cleared c (k * width) i d → length d ≤ i → d ≡ clear_from c k
 unfolding clear_from

@@ -1,5 +1,4 @@
 pub mod Cleared
-pub mod Copied
 pub mod Record
 pub mod Added
 pub mod Fit

@@ -16,13 +16,11 @@ pub const RECORDS: usize = 1024;
 pub const MOST: usize = RECORDS * WIDTH;
 
 // Whether the length of lent cells is a multiple of a record's width, and not too long (refusal 5).
+#[tactic(auto, unfolding(rule::specs::Cells::fit_cells))]
 pub fn fit_cells(cells: &[u16]) -> bool
     ensures { result ≡ fit_cells cells.now }
 {
-    if cells.len() % WIDTH != 0 {
-        return false;
-    }
-    cells.len() <= MOST
+    cells.len() % WIDTH == 0 && cells.len() <= MOST
 }
 
 // How many records the cells hold.
@@ -33,6 +31,7 @@ pub fn room(cells: &[u16]) -> usize
 }
 
 // The flag that record k asks.
+#[tactic(auto, unfolding(rule::specs::Cells::flag_at))]
 pub fn flag_at(cells: &[u16], k: u16) -> u16
     requires { k < room cells.now }
     ensures { result ≡ flag_at cells.now k }
@@ -41,6 +40,7 @@ pub fn flag_at(cells: &[u16], k: u16) -> u16
 }
 
 // The low node of record k, where its flag is 0.
+#[tactic(auto, unfolding(rule::specs::Cells::low_at))]
 pub fn low_at(cells: &[u16], k: u16) -> u16
     requires { k < room cells.now }
     ensures { result ≡ low_at cells.now k }
@@ -49,6 +49,7 @@ pub fn low_at(cells: &[u16], k: u16) -> u16
 }
 
 // The high node of record k, where its flag is 1.
+#[tactic(auto, unfolding(rule::specs::Cells::high_at))]
 pub fn high_at(cells: &[u16], k: u16) -> u16
     requires { k < room cells.now }
     ensures { result ≡ high_at cells.now k }
@@ -60,17 +61,11 @@ pub fn high_at(cells: &[u16], k: u16) -> u16
 pub fn rest_clear(cells: &[u16], k: u16) -> bool
     ensures { result ≡ rest_clear cells.now k }
 {
-    let mut i = (k as usize) * WIDTH;
-    while i < cells.len() {
-        if cells[i] != 0 {
-            return false;
-        }
-        i += 1;
-    }
-    true
+    cells.iter().skip((k as usize) * WIDTH).all(|&c| c == 0)
 }
 
 // Puts a record at place k.
+#[tactic(auto, using(crate::proofs::Record::put_stores))]
 pub fn put(cells: &mut [u16], k: u16, flag: u16, low: u16, high: u16)
     requires { k < room cells.old }
     ensures { cells.new ≡ put_record cells.old k flag low high }
@@ -82,15 +77,12 @@ pub fn put(cells: &mut [u16], k: u16, flag: u16, low: u16, high: u16)
 }
 
 // Clears the cells from record k on.
+#[tactic(auto, unfolding(crate::specs::Record::clear_from))]
 pub fn clear_from(cells: &mut [u16], k: u16)
     requires { k ≤ room cells.old }
     ensures { cells.new ≡ clear_from cells.old k }
 {
-    let mut i = (k as usize) * WIDTH;
-    while i < cells.len() {
-        cells[i] = 0;
-        i += 1;
-    }
+    cells[(k as usize) * WIDTH..].fill(0);
 }
 
 // Writes all of src over dst, which is as long.
@@ -98,9 +90,5 @@ pub fn copy(src: &[u16], dst: &mut [u16])
     requires { length src.now ≡ length dst.old }
     ensures { dst.new ≡ src.now }
 {
-    let mut i = 0;
-    while i < src.len() {
-        dst[i] = src[i];
-        i += 1;
-    }
+    dst.copy_from_slice(src);
 }

@@ -23,12 +23,6 @@ module _ (n : ℕ) (o c : List ℕ) (used root : ℕ) where
       }
 
   module _ (own : List Row) where
-    pub check_refuses : {k : ℕ} (w : List ℕ) → refused k w ≡ reply (refusal (check_rows n o c used root)) (used ∷ [])
-        → k ≡ refusal (check_rows n o c used root ++ own)
-    check_refuses {k} w e =
-        let (p, d) = refused_is k (refusal (check_rows n o c used root)) w (used ∷ []) e in
-        p ∙ refused-more (check_rows n o c used root) own d
-
     pub check_passes : (w : List ℕ) → accepted w ≡ reply (refusal (check_rows n o c used root)) (used ∷ [])
         → (refusal (check_rows n o c used root) ≡ 0) × (refusal own ≡ refusal (check_rows n o c used root ++ own))
     check_passes w e =

@@ -1,4 +1,3 @@
 pub mod Parts
 pub mod Refused
-pub mod Checked
 pub mod First

@@ -1,6 +1,6 @@
 -- The rows of lent cells, and what holds where none applies.
 -- Assumes nothing.
-use mathlib.Core.Path.{◌≡◌, sym, ◌∙◌}
+use mathlib.Core.Path.{◌≡◌, sym}
 use mathlib.Core.Bool.{true, not}
 use mathlib.Core.List.{List, [], ◌∷◌}
 use Prim.Native.Nat.{ℕ, ◌≤◌}
@@ -14,8 +14,8 @@ use Rattle.theory.proofs.Refused.{row_passed}
 
 -- ---- the rows of a flag count and an order
 
-pub few_flags : (n : ℕ) (o : List ℕ) {r : ℕ} → r ≡ refusal (flag_count n ∷ order_places n o ∷ []) → r ≡ 0 → n ≤ 10
-few_flags n o e f = ltb-false _ _ (row_passed (ltb 10 n) 0 (order_places n o ∷ []) (sym e ∙ f)).0
+pub few_flags : (n : ℕ) (o : List ℕ) → 0 ≡ refusal (flag_count n ∷ order_places n o ∷ []) → n ≤ 10
+few_flags n o e = ltb-false _ _ (row_passed (ltb 10 n) 0 (order_places n o ∷ []) (sym e)).0
 
 -- ---- the rows of lent cells with used records
 
@@ -31,9 +31,9 @@ pub record Taken (n : ℕ) (o c : List ℕ) (used : ℕ) : Type 0 where
   pub is_sound : sound n o c used ≡ true
 
 module _ (n : ℕ) (o c : List ℕ) (used : ℕ) where
-  pub rows_passed : {r : ℕ} → r ≡ refusal (cell_rows n o c used) → r ≡ 0 → Taken n o c used
-  rows_passed e f =
-      let (a, e₁) = row_passed (ltb 10 n) 0 (order_places n o ∷ cells c ∷ records n o c used ∷ []) (sym e ∙ f) in
+  pub rows_passed : 0 ≡ refusal (cell_rows n o c used) → Taken n o c used
+  rows_passed e =
+      let (a, e₁) = row_passed (ltb 10 n) 0 (order_places n o ∷ cells c ∷ records n o c used ∷ []) (sym e) in
       let (b, e₂) = row_passed (not (fit_order n o)) 3 (cells c ∷ records n o c used ∷ []) e₁ in
       let (d, e₃) = row_passed (not (fit_cells c)) 4 (records n o c used ∷ []) e₂ in
       let (s, e₄) = row_passed (not (sound n o c used)) 5 [] e₃ in

@@ -3,4 +3,4 @@
 
 mod call;
 
-pub use call::{check, is_diagram, records_refusal};
+pub use call::{check, is_diagram, test_records};

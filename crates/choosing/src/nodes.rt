@@ -6,7 +6,7 @@ ghost use Rattle.apply.specs.Grow.{Ready, From, Comes};
 use apply::{both_branches, earlier};
 use levels::Levels;
 use rule::Node;
-use unique::{Found, Grown};
+use unique::Grown;
 
 // A node that is there.
 fn found(used: u16, m: u16) -> Grown
@@ -14,7 +14,7 @@ fn found(used: u16, m: u16) -> Grown
 {
     Grown {
         used,
-        found: Found::At(m),
+        found: Some(m),
     }
 }
 
@@ -48,12 +48,9 @@ pub fn choose_nodes(
     let gs = both_branches(cells, flag, g);
     let hs = both_branches(cells, flag, h);
     let no = choose_nodes(levels, next, fs.no, gs.no, hs.no, cells, index, used);
-    let lower = no.found;
-    match lower {
-        Found::Full => no,
-        Found::At(low) => {
-            let yes = choose_nodes(levels, next, fs.yes, gs.yes, hs.yes, cells, index, no.used);
-            unique::make_above(cells, index, flag, low, yes)
-        }
-    }
+    let Some(low) = no.found else {
+        return no;
+    };
+    let yes = choose_nodes(levels, next, fs.yes, gs.yes, hs.yes, cells, index, no.used);
+    unique::make_above(cells, index, flag, low, yes)
 }

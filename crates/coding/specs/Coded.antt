@@ -1,10 +1,9 @@
 -- A list of calls as words code it: which call, and its arguments, or for open the state that it is given.
 -- Assumes nothing.
-use Rattle.std.specs.Prelude.{cond, List, [], ◌∷◌, ℕ, ◌+◌, ◌*◌, ◌%◌, eqb, get_or}
+use Rattle.std.specs.Prelude.{cond, List, [], ◌∷◌, ℕ, ◌+◌, ◌*◌, ◌%◌, eqb, get_or, Some, None}
 use Rattle.rule.specs.Calls.{State}
 use Rattle.rule.specs.History.{Asked}
 use Rattle.rule.specs.declared.node.Node.{Node}
-use Rattle.rule.specs.declared.pass.Pass.TheVariants as the-pass
 use Rattle.asking.specs.declared.queries.Query.{Query}
 use Rattle.asking.specs.declared.queries.Query.TheVariants as the-query
 use Rattle.asking.specs.declared.requests.Making.TheVariants as the-making
@@ -26,11 +25,11 @@ node m = record { number = m }
 abbrev pub query_by : ℕ → ℕ → ℕ → ℕ → ℕ → ℕ → Query
 query_by kind x y z u v =
     cond (eqb kind 6) (the-query.Tabulate (node x) y)
-    (cond (eqb kind 8) (the-query.Walk (node x) (the-pass.Rule (node y)) z)
+    (cond (eqb kind 8) (the-query.Walk (node x) (Some (node y)) z)
     (cond (eqb kind 9) (the-query.Provoke (node x) y (node z) u v)
-    (cond (eqb kind 10) (the-query.Replay (node x) the-pass.EveryRow y)
-    (cond (eqb kind 11) (the-query.Replay (node x) (the-pass.Rule (node y)) z)
-    (the-query.Walk (node x) the-pass.EveryRow y)))))
+    (cond (eqb kind 10) (the-query.Replay (node x) None y)
+    (cond (eqb kind 11) (the-query.Replay (node x) (Some (node y)) z)
+    (the-query.Walk (node x) None y)))))
 
 -- the call of a kind, with its arguments: of the first a join takes the last eight bits
 abbrev pub request_by : ℕ → ℕ → ℕ → ℕ → ℕ → ℕ → Request

@@ -6,7 +6,7 @@ ghost use Rattle.store.specs.State.{state_of};
 ghost use Rattle.coding.specs.Coded.{call_words, query_by, request_by, request_at, byte_at, given_at};
 
 use asking::{Making, Query, Request};
-use rule::{Node, Order, Pass};
+use rule::{Node, Order};
 use store::Store;
 
 // The words of one call.
@@ -28,7 +28,7 @@ fn query_by(kind: u16, x: u16, y: u16, z: u16, u: u16, v: u16) -> Query
         6 => Query::Tabulate { rule, length: y },
         8 => Query::Walk {
             rule,
-            pass: Pass::Rule(Node { number: y }),
+            pass: Some(Node { number: y }),
             row: z,
         },
         9 => Query::Provoke {
@@ -40,17 +40,17 @@ fn query_by(kind: u16, x: u16, y: u16, z: u16, u: u16, v: u16) -> Query
         },
         10 => Query::Replay {
             rule,
-            pass: Pass::EveryRow,
+            pass: None,
             length: y,
         },
         11 => Query::Replay {
             rule,
-            pass: Pass::Rule(Node { number: y }),
+            pass: Some(Node { number: y }),
             length: z,
         },
         _ => Query::Walk {
             rule,
-            pass: Pass::EveryRow,
+            pass: None,
             row: y,
         },
     }

@@ -1,26 +1,26 @@
 ghost use Rattle.std.specs.Prelude.{◌≡◌, [], ◌∷◌, ◌≤◌};
 ghost use Rattle.rule.specs.Cells.{room};
 ghost use Rattle.rule.specs.Reply.{refused};
-ghost use Rattle.rule.specs.Answers.{made_reply};
+ghost use Rattle.rule.specs.Answers.{refusal_number, made_reply};
 ghost use Rattle.concluding.specs.Conclude.{Concludes};
 
-use rule::{Made, Node};
-use unique::{Found, Grown};
+use rule::{Node, Refusal};
+use unique::Grown;
 
 // The used records after a call that makes a rule, beside its answer.
 #[derive(Clone, Copy)]
 pub struct Outcome {
     pub used: u16,
-    pub answer: Made,
+    pub answer: Result<Node, Refusal>,
 }
 
-// A refusal under this number, with the used records as given.
-pub fn refuse(used: u16, number: u8) -> Outcome
-    ensures { (result.used ≡ used) × (made_reply result.answer ≡ refused number (0 ∷ [])) }
+// A refusal, with the used records as given.
+fn refuse(used: u16, refusal: Refusal) -> Outcome
+    ensures { (result.used ≡ used) × (made_reply result.answer ≡ refused (refusal_number refusal) (0 ∷ [])) }
 {
     Outcome {
         used,
-        answer: Made::Refused(number),
+        answer: Err(refusal),
     }
 }
 
@@ -29,15 +29,14 @@ pub fn conclude(cells: &mut [u16], used: u16, grown: Grown) -> Outcome
     requires { used ≤ room cells.old }
     ensures { Concludes grown.found cells.old used grown.used result cells.new }
 {
-    let found = grown.found;
-    match found {
-        Found::At(m) => Outcome {
+    match grown.found {
+        Some(number) => Outcome {
             used: grown.used,
-            answer: Made::Rule(Node { number: m }),
+            answer: Ok(Node { number }),
         },
-        Found::Full => {
+        None => {
             cells::clear_from(cells, used);
-            refuse(used, 10)
+            refuse(used, Refusal::NoRoom)
         }
     }
 }

@@ -3,4 +3,4 @@
 
 mod ending;
 
-pub use ending::{Outcome, conclude, refuse};
+pub use ending::{Outcome, conclude};

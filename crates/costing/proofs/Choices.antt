@@ -9,7 +9,7 @@ use native.Mathlib.Omega.{arith}
 use borrow.Author.Count.{below_more}
 use lib.ListN.{length, get_or, take, drop}
 use lib.Pow.{pow_mono, shl_exact}
-use Rattle.rule.specs.Bits.{bit, set_bit, below}
+use Rattle.rule.specs.Bits.{bit, set_bit}
 use Rattle.rule.specs.Sets.{set_size}
 use Rattle.theory.proofs.Tests.{below-keep}
 use Rattle.sets.specs.Post.{Size}
@@ -48,16 +48,21 @@ module _ {s : List ℕ} {p : ℕ} (f : Foldable s p) where
   ways_few = omega (arith, ways_most s p, source_most)
 
 -- a flag's cost by the counts of its nodes and ways; shifted to rows, nothing of so few ways is lost
-module _ (S v : ℕ) {p a nodes ways : ℕ} (s d : List ℕ) (f : Foldable s (place_of S v)) (q : p ≡ place_of S v)
-    (x : Counts s p d nodes ways) (y : Size S a) where
-  pub asking_cost_is : nodes * node_weight + ways * 2 ^ a % 2 ^ 32 ≡ asking_cost S v s d
+module _ {S p a nodes ways : ℕ} {s d : List ℕ} (f : Foldable s p) (x : Counts s p d nodes ways) (y : Size S a) where
+  shifted : ways * 2 ^ a % 2 ^ 32 ≡ ways * 2 ^ a
+  shifted = shl_exact 10 a 32 (omega (arith, x.ways_are, ways_few f)) (omega (arith, y.most))
+
+  pub asking_cost_is : (v : ℕ) → p ≡ place_of S v → nodes * node_weight + ways * 2 ^ a % 2 ^ 32 ≡ asking_cost S v s d
   unfolding asking_cost
-  asking_cost_is =
-      ap (λ (k : ℕ). nodes * node_weight + k) (shl_exact 10 a 32 (omega (arith, x.ways_are, ap (differing s) q, ways_few f)) (omega (arith, y.most)))
-      ∙ rw (x.nodes_are, x.ways_are, q, y.is)
+  asking_cost_is v q = ap (λ (k : ℕ). nodes * node_weight + k) shifted ∙ rw (x.nodes_are, x.ways_are, q, y.is)
+
+  pub counts_most : length s ≡ length d * 2 → nodes * node_weight + ways * 2 ^ a % 2 ^ 32 ≤ most_cost
+  counts_most e =
+      let few : ways * 2 ^ a ≤ 512 * 2 ^ 10 = mul-le-mul {n₂ = 512} (omega (arith, x.ways_are, ways_few f)) (pow_mono {i = a} {j = 10} y.most) in
+      omega (arith, x.nodes_are, nodes_few f d e, shifted, few)
 
 -- and that is small
-pub asking-cost_most : (S v : ℕ) (s d : List ℕ) → Foldable s (place_of S v) → length s ≡ length d * 2 → set_size S ≤ 10 → asking_cost S v s d ≤ most_cost
+asking-cost_most : (S v : ℕ) (s d : List ℕ) → Foldable s (place_of S v) → length s ≡ length d * 2 → set_size S ≤ 10 → asking_cost S v s d ≤ most_cost
 unfolding asking_cost
 asking-cost_most S v s d f e h = omega (arith, nodes_few f d e, mul-le-mul (ways_few f) (pow_mono {i = set_size S} {j = 10} h))
 
@@ -77,13 +82,14 @@ module _ {n S : ℕ} {starts w least : List ℕ} (g : Ready n S starts w) (f : B
         size_most n S few g.below,
       )
 
-  -- the cost by the lent parts is the one that the set's cost speaks of
-  pub via_is : {r from to start end k : ℕ} → r ≡ set_bit S v 0 → PartOf n r from to → PartOf n S start end
-      → k ≡ asking_cost S v (take (to - from) (drop from w)) (take (end - start) (drop start w)) → get_or least r 0 + k ≡ via n w least S v
+  -- the cost by the lent parts, one of them in the halves of v, is the one that the set's cost speaks of
+  pub via_is : {r from to start end k p q : ℕ} {s : List ℕ} → r ≡ set_bit S v 0 → PartOf n r from to → PartOf n S start end
+      → (s ≡ take (to - from) (drop from w)) × (p ≡ q) → q ≡ place_of S v
+      → ((u : ℕ) → p ≡ place_of S u → k ≡ asking_cost S u s (take (end - start) (drop start w))) → get_or least r 0 + k ≡ via n w least S v
   unfolding via
-  via_is rest a b c =
+  via_is rest a b halves place c =
       ap₂ ◌+◌ (ap (λ (x : ℕ). get_or least x 0) rest)
-      (c ∙ rw (source_is g v e rest a b, own_is g v e rest a b))
+      (c v (halves.1 ∙ place) ∙ rw (halves.0 ∙ source_is g v e rest a b, own_is g v e rest a b))
 
 -- ---- the cheapest of the flags passed
 

@@ -1,13 +1,14 @@
 // What it costs to ask the flags of a set with each of them first, and the cheapest (document 01, "Packing"; document 001, chapter 3).
 #![tactic(auto)]
 
-ghost use Rattle.std.specs.Prelude.{◌≡◌, ◌*◌, ◌<◌, length};
+ghost use Rattle.std.specs.Prelude.{◌≡◌, ℕ, ◌*◌, ◌<◌, length};
 ghost use Rattle.rule.specs.Bits.{bit};
-ghost use Rattle.ways.specs.Ways.{place_of, Foldable};
+ghost use Rattle.ways.specs.Ways.{place_of};
 ghost use Rattle.costing.specs.Ready.{Ready, Lowest};
 ghost use Rattle.costing.specs.Choice.{asking_cost, Bounded, via, Cheapest};
 
 use stretches::SET_COUNT;
+use ways::Halves;
 
 // What a node weighs: more than all flags that walks can ask, 10 in each of 1,024 rows.
 const NODE_WEIGHT: u32 = 16384;
@@ -19,13 +20,13 @@ pub struct Choice {
     pub flag: u16,
 }
 
-// What asking flag v costs while the set is still to be asked, by the codes of the set without v and of the set: the nodes that ask v, counted in 64 bits, and
-// the rows whose walk does.
-fn asking_cost(set: u16, v: u16, source: &[u16], codes: &[u16]) -> u32
-    requires { (set < 1024) × (v < 10) × Foldable source.now (place_of set v) × (length source.now ≡ length codes.now * 2) }
-    ensures { result ≡ asking_cost set v source.now codes.now }
+// What asking a flag v costs while the set is still to be asked, by the codes of the set without v, in the halves of v, and of the set: the nodes that ask v,
+// counted in 64 bits, and the rows whose walk does.
+fn asking_cost(set: u16, halves: Halves, codes: &[u16]) -> u32
+    requires { (set < 1024) × (length halves.source.now ≡ length codes.now * 2) }
+    ensures { (v : ℕ) → halves.entry.p ≡ place_of set v → result ≡ asking_cost set v halves.entry.source.now codes.now }
 {
-    let asking = folding::count(source, ways::place_of(set, v), codes);
+    let asking = folding::count(halves, codes);
     let nodes = asking.nodes as u32;
     let ways = asking.ways as u32;
     nodes * NODE_WEIGHT + (ways << sets::size_of(set))
@@ -50,7 +51,9 @@ fn via(
     let own = stretches::locate(n, starts, set);
     let start = own.start;
     let end = own.end;
-    least[rest as usize] + asking_cost(set, v, &workspace[from..to], &workspace[start..end])
+    let rest_cost = least[rest as usize];
+    let halves = Halves::new(&workspace[from..to], ways::place_of(set, v));
+    rest_cost + asking_cost(set, halves, &workspace[start..end])
 }
 
 // The cheapest flag of a set, of several the smallest; v is the set's smallest flag.
@@ -67,8 +70,7 @@ pub fn cheapest(
 {
     let mut flag = v;
     let mut cost = via(n, set, v, starts, workspace, least);
-    let mut u = v + 1;
-    while u < n as u16 {
+    for u in v + 1..n as u16 {
         if bits::bit(set, u) == 1 {
             let other = via(n, set, u, starts, workspace, least);
             if other < cost {
@@ -76,7 +78,6 @@ pub fn cheapest(
                 cost = other;
             }
         }
-        u += 1;
     }
     Choice { cost, flag }
 }

@@ -1,23 +1,16 @@
 -- What the reader's cursor stands for: an outcome of Files.antt.
 -- Assumes nothing.
-use Rattle.std.specs.Prelude.{◌≡◌, List, [], ◌∷◌, map, ℕ, ◌+◌, ◌≤◌, length, get_or}
+use Rattle.std.specs.Prelude.{◌≡◌, List, [], ◌∷◌, map, ℕ, ◌+◌, ◌≤◌, length, get_or, Result, Ok, Err, IfOk}
 use Rattle.rule.specs.Bits.{below}
 use Rattle.rule.specs.Order.{rising}
-use Rattle.rule.specs.Files.{Reading, Outcome, read_or, unless, nothing_read, past_end, file_map, record_at}
-use Rattle.cursor.specs.declared.step.Cursor.{Cursor}
-use Rattle.cursor.specs.declared.step.Step.{Step}
+use Rattle.rule.specs.Answers.{refusal_number}
+use Rattle.rule.specs.declared.refusal.Refusal.{Refusal}
+use Rattle.rule.specs.Files.{Reading, Outcome, stop, go, unless, nothing_read, past_end, file_map, record_at}
+use Rattle.cursor.specs.declared.place.Cursor.{Cursor}
 
--- no field read, up to a place: what absent fields mean
-abbrev pub nothing : ℕ → Cursor
-nothing at = record { n = 0; order = record { places = rising 0 }; label = 0; size = 0; records = 0; count = 0; at = at }
-
--- refused under a number
-abbrev pub refused : ℕ → Step
-refused number = record { refused = number; cursor = nothing 0 }
-
--- the bit map is read, and no field yet
-abbrev pub start : Step
-start = record { refused = 0; cursor = nothing 1 }
+-- the bit map is read, and no field yet: what absent fields mean
+abbrev pub start : Cursor
+start = record { n = 0; order = record { places = rising 0 }; label = 0; size = 0; records = 0; count = 0; at = 1 }
 
 -- what a file says up to a cursor
 abbrev pub reading_of : List ℕ → Cursor → Reading
@@ -30,8 +23,10 @@ reading_of file x =
       at = x.at;
     }
 
-abbrev pub outcome_of : List ℕ → Step → Outcome
-outcome_of file s = read_or s.refused (reading_of file s.cursor)
+-- a step of the reader: a file read on, or why it is refused
+abbrev pub outcome_of : List ℕ → Result Cursor Refusal → Outcome
+outcome_of file (Ok x) = go (reading_of file x)
+outcome_of file (Err k) = stop (refusal_number k)
 
 -- the cursor stands before the records, within the file
 pub record Before (file : List ℕ) (x : Cursor) : Type 0 where
@@ -41,10 +36,14 @@ pub record Before (file : List ℕ) (x : Cursor) : Type 0 where
   pub start : x.records ≡ 0
   pub none : x.count ≡ 0
 
--- a step is this outcome
-pub record Leads (file : List ℕ) (o : Outcome) (s : Step) : Type 0 where
+-- a step is this outcome, and where it is not refused its cursor stands so
+pub record Comes (file : List ℕ) (Stands : Cursor → Type 0) (o : Outcome) (s : Result Cursor Refusal) : Type 0 where
   pub is : outcome_of file s ≡ o
-  pub before : Before file s.cursor
+  pub stands : IfOk s Stands
+
+-- a step before the records
+abbrev pub Leads : List ℕ → Outcome → Result Cursor Refusal → Type 0
+Leads file o s = Comes file (Before file) o s
 
 -- the bit map, of a file that is to be read into cells of a fit length
 unfoldable pub map_read : List ℕ → Outcome

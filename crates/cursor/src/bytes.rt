@@ -6,7 +6,5 @@ pub fn two_at(file: &[u8], at: usize) -> u16
     requires { at + 1 < length file.now }
     ensures { result ≡ two_at file.now at }
 {
-    let low = file[at] as u16;
-    let high = file[at + 1] as u16;
-    low + 256 * high
+    u16::from_le_bytes([file[at], file[at + 1]])
 }

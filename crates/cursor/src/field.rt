@@ -1,59 +1,58 @@
 ghost use Rattle.std.specs.Prelude.{◌≡◌, get_or};
 ghost use Rattle.rule.specs.Bits.{bit};
-ghost use Rattle.rule.specs.Files.{flags_bit, and_then, field_if, read_flags};
-ghost use Rattle.cursor.specs.Step.{outcome_of, Before, Leads, map_read};
+ghost use Rattle.rule.specs.Files.{flags_bit, field_if, file_map, read_flags};
+ghost use Rattle.cursor.specs.Step.{reading_of, Before, Leads, map_read};
 
-use crate::step::{Step, refused, stands, start};
-use rule::{FLAGS_BIT, MAP_END, Order, RECORDS_BIT, YES_BIT};
+use crate::place::Cursor;
+use rule::{FLAGS_BIT, MAP_END, Order, RECORDS_BIT, Refusal, YES_BIT};
 
 // The bit map: the file's first byte, 0 where there is none.
 pub fn bit_map(file: &[u8]) -> u16
     ensures { result ≡ get_or file.now 0 0 }
 {
-    if file.len() < 1 {
-        return 0;
-    }
-    file[0] as u16
+    file.first().map_or(0, |&byte| byte as u16)
+}
+
+// Whether a map has one of bits 5 to 7, or bits 3 and 4 together.
+fn is_unfit(map: u16) -> bool
+    ensures { result ≡ (file_map map).0 }
+{
+    MAP_END <= map || bits::bit(map, RECORDS_BIT) == 1 && bits::bit(map, YES_BIT) == 1
 }
 
 // The bit map tested: 11, then 12.
-pub fn read_map(file: &[u8]) -> Step
+#[tactic(auto, unfolding(crate::specs::Step::map_read, rule::specs::Files::unless, rule::specs::Bits::from))]
+pub fn read_map(file: &[u8]) -> Result<Cursor, Refusal>
     ensures { Leads file.now (map_read file.now) result }
 {
-    if file.len() < 1 {
-        return refused(11);
+    if file.is_empty() {
+        return Err(Refusal::FileEnd);
     }
-    let map = file[0] as u16;
-    if MAP_END <= map {
-        return refused(12);
+    if is_unfit(bit_map(file)) {
+        return Err(Refusal::FileMap);
     }
-    if bits::bit(map, RECORDS_BIT) == 1 {
-        if bits::bit(map, YES_BIT) == 1 {
-            return refused(12);
-        }
-    }
-    start()
+    Ok(Cursor::start())
 }
 
 // Bit 0, n: 11, then 1.
-pub fn read_flags(file: &[u8], map: u16, step: Step) -> Step
-    requires { Before file.now step.cursor }
-    ensures { Leads file.now (and_then (outcome_of file.now step) (field_if (bit map flags_bit) (read_flags file.now))) result }
+#[tactic(auto, using(crate::proofs::Stepped::entered), unfolding(rule::specs::Files::read_flags, rule::specs::Files::unless))]
+pub fn read_flags(file: &[u8], map: u16, cursor: Cursor) -> Result<Cursor, Refusal>
+    requires { Before file.now cursor }
+    ensures { Leads file.now (field_if (bit map flags_bit) (read_flags file.now) (reading_of file.now cursor)) result }
 {
-    if !stands(step, map, FLAGS_BIT) {
-        return step;
+    if bits::bit(map, FLAGS_BIT) == 0 {
+        return Ok(cursor);
     }
-    let mut cursor = step.cursor;
-    let at = cursor.at;
-    if file.len() <= at {
-        return refused(11);
-    }
-    let n = file[at];
+    let Some(&n) = file.get(cursor.at) else {
+        return Err(Refusal::FileEnd);
+    };
     if 10 < n {
-        return refused(1);
+        return Err(Refusal::FlagCount);
     }
-    cursor.n = n;
-    cursor.order = Order::rising(n);
-    cursor.at = at + 1;
-    Step { refused: 0, cursor }
+    Ok(Cursor {
+        n,
+        order: Order::rising(n),
+        at: cursor.at + 1,
+        ..cursor
+    })
 }

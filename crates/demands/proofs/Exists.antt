@@ -10,7 +10,7 @@ use Rattle.rule.specs.Tests.{keep}
 use Rattle.rule.specs.Table.{cofactor, depends, fixings}
 use Rattle.rule.specs.Level.{distinct, level_nodes, level_count, nodes_from, size}
 use Rattle.rule.specs.Order.{flags}
-use Rattle.rule.specs.Cells.{most_cells, room}
+use Rattle.rule.specs.Cells.{most_cells}
 use Rattle.rule.specs.Reduced.{DrawnAs}
 use Rattle.rule.specs.Demands.{Fit}
 use Rattle.theory.proofs.Tests.{length_keep}

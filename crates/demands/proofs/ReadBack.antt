@@ -93,8 +93,8 @@ module _ (file : List ℕ) (n : ℕ) (o p : List ℕ) (at : ℕ) (front : length
       let long : length file ≡ at + 1 + length own + length rest = rw e (simp length-append (omega arith)) in
       let exact : at + 1 + length own - (at + 1) ≡ length own = omega arith in
       let end : at + 1 + length own ≡ at + length (label_field own) = omega arith in
-      let fits : each printable (take (at + 1 + get_or file at 0 - (at + 1)) (drop (at + 1) file)) ≡ true = rw (size, exact, bytes) print in
-      label_read_lem file (so_far n o no_part [] at) (omega arith) (λ z. omega arith) (omega arith) (omega arith) (sym fits) refl ∙ rw (size, end)
+      let fits : each printable (take (at + 1 + length own - (at + 1)) (drop (at + 1) file)) ≡ true = rw (exact, bytes) print in
+      label_read_lem file (so_far n o no_part [] at) (omega arith) (sym size) (λ z. omega arith) short (omega arith) (sym fits) refl ∙ rw end
 
   -- where there are records
   module _ (r : RecordValues) (rs : List RecordValues) (e : file ≡ p ++ record_field (r ∷ rs)) where
@@ -157,7 +157,7 @@ module _ {n root : ℕ} {o l : List ℕ} {rs : List RecordValues} {file : List �
   n_back : read_flags file nothing_read ≡ go (so_far n (rising n) no_part [] 2)
   n_back =
       let n-is : get_or file 1 0 ≡ n = rw t.bytes in
-      flags_read file nothing_read (omega (arith, long)) (rw n-is t.few) refl ∙ rw n-is
+      flags_read file nothing_read (omega (arith, long)) (sym n-is) t.few refl
 
   order_back : read_order file (so_far n (rising n) no_part [] 2) ≡ go (so_far n o no_part [] (2 + n))
   order_back =

@@ -3,7 +3,7 @@ ghost use Rattle.record_index.specs.Index.{Indexed};
 ghost use Rattle.drawing.specs.Draw.{Drawing, Draw};
 
 use rule::{Node, Order};
-use unique::{Found, Grown};
+use unique::Grown;
 
 // The end node that gives the answer.
 fn end_node(answer: u8) -> u16
@@ -32,19 +32,17 @@ pub fn draw(
         × Indexed cells.new result.used index.new }
 {
     if n <= at {
-        let end = end_node(table[row as usize]);
         return Grown {
             used,
-            found: Found::At(end),
+            found: Some(end_node(table[row as usize])),
         };
     }
     let flag = order.places[at as usize] as u16;
     let no = bits::set_bit(row, flag, 0);
     let first = draw(n, table, order, at + 1, no, cells, index, used);
-    let lower = first.found;
-    match lower {
-        Found::Full => first,
-        Found::At(low) => {
+    match first.found {
+        None => first,
+        Some(low) => {
             let yes = bits::set_bit(row, flag, 1);
             let second = draw(n, table, order, at + 1, yes, cells, index, first.used);
             unique::make_above(cells, index, flag, low, second)

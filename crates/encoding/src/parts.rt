@@ -12,10 +12,7 @@ pub fn put_two(bytes: &mut [u8], at: usize, x: u16) -> usize
     requires { at + 2 ≤ length bytes.old }
     ensures { Puts bytes.old at (two x) result bytes.new }
 {
-    let low = (x % 256) as u8;
-    let high = (x / 256) as u8;
-    let next = put_byte(bytes, at, low);
-    put_byte(bytes, next, high)
+    put_run(bytes, at, &x.to_le_bytes())
 }
 
 // Writes the flags of an order.
@@ -45,10 +42,8 @@ pub fn put_records(bytes: &mut [u8], at: usize, cells: &[u16], used: u16) -> usi
     ensures { Puts bytes.old at (record_bytes (records_in cells.now used)) result bytes.new }
 {
     let mut next = at;
-    let mut k: u16 = 0;
-    while k < used {
+    for k in 0..used {
         next = put_record(bytes, next, cells, k);
-        k += 1;
     }
     next
 }

@@ -5,7 +5,7 @@ ghost use Rattle.rule.specs.Calls.{Build, Check, Walks, Provokes, Tabulates};
 ghost use Rattle.exports.specs.Word.{Codes};
 
 use crate::values::{answer, walked};
-use rule::{Counted, Done, Drawn, Node, Order, Pass, Said, Sought};
+use rule::{Node, Order};
 
 // Build: the node count and the root.
 #[unsafe(no_mangle)]
@@ -13,8 +13,8 @@ pub extern "C" fn engine_build(n: u8, table: &[u8], places: &[u8; 10], cells: &m
     ensures { Codes (λ a. Build n table.now places.now cells.old a cells.new) result }
 {
     match building::build(n, table, Order { places: *places }, cells) {
-        Drawn::Diagram { nodes, root } => answer(0, nodes, root.number),
-        Drawn::Refused(k) => answer(k, 0, 0),
+        Ok(drawn) => answer(0, drawn.nodes, drawn.root.number),
+        Err(refusal) => answer(refusal.number(), 0, 0),
     }
 }
 
@@ -30,13 +30,21 @@ pub extern "C" fn engine_check(n: u8, places: &[u8; 10], cells: &[u16], used: u1
         used,
         Node { number: root },
     ) {
-        Counted::Nodes(nodes) => answer(0, nodes, 0),
-        Counted::Refused(k) => answer(k, 0, 0),
+        Ok(nodes) => answer(0, nodes, 0),
+        Err(refusal) => answer(refusal.number(), 0, 0),
     }
 }
 
 // Walk, with a pass rule or without: the answer, the set of the flags asked, and their number.
-fn walk(n: u8, places: &[u8; 10], cells: &[u16], used: u16, node: u16, pass: Pass, row: u16) -> u64
+fn walk(
+    n: u8,
+    places: &[u8; 10],
+    cells: &[u16],
+    used: u16,
+    node: u16,
+    pass: Option<Node>,
+    row: u16,
+) -> u64
     ensures { Codes (Walks n places.now cells.now used node (pass_of pass) row) result }
 {
     match walking::walk(
@@ -48,12 +56,8 @@ fn walk(n: u8, places: &[u8; 10], cells: &[u16], used: u16, node: u16, pass: Pas
         pass,
         row,
     ) {
-        Said::Answer {
-            answer,
-            asked,
-            count,
-        } => walked(answer, asked, count),
-        Said::Refused(k) => answer(k, 0, 0),
+        Ok(said) => walked(said.answer, said.asked, said.count),
+        Err(refusal) => answer(refusal.number(), 0, 0),
     }
 }
 
@@ -69,7 +73,7 @@ pub extern "C" fn engine_walk(
 ) -> u64
     ensures { Codes (Walks n places.now cells.now used node none row) result }
 {
-    walk(n, places, cells, used, node, Pass::EveryRow, row)
+    walk(n, places, cells, used, node, None, row)
 }
 
 // Walk under a pass rule's node.
@@ -91,7 +95,7 @@ pub extern "C" fn engine_walk_under(
         cells,
         used,
         node,
-        Pass::Rule(Node { number: pass }),
+        Some(Node { number: pass }),
         row,
     )
 }
@@ -116,8 +120,8 @@ pub extern "C" fn engine_tabulate(
         Node { number: node },
         bytes,
     ) {
-        Done::Accepted => answer(0, 0, 0),
-        Done::Refused(k) => answer(k, 0, 0),
+        Ok(()) => answer(0, 0, 0),
+        Err(refusal) => answer(refusal.number(), 0, 0),
     }
 }
 
@@ -147,7 +151,7 @@ pub extern "C" fn engine_provoke(
         fixed,
         ones,
     ) {
-        Sought::Row(row) => answer(0, row, 0),
-        Sought::Refused(k) => answer(k, 0, 0),
+        Ok(row) => answer(0, row, 0),
+        Err(refusal) => answer(refusal.number(), 0, 0),
     }
 }

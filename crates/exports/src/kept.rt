@@ -6,18 +6,17 @@ ghost use Rattle.rule.specs.Calls.{Join};
 ghost use Rattle.exports.specs.Word.{word, CodesState};
 
 use crate::values::answer;
-use rule::{Made, Node, Order};
-use store::{Store, Stored};
+use rule::{Node, Order};
+use store::{Kept, Store};
 
 // What a call that makes a rule hands back.
-fn stored(made: Stored) -> u64
-    ensures { result ≡ word (number_of (made_reply made.answer)) made.store.used (value_at (made_reply made.answer) 0) 0 }
+fn stored(kept: Kept<Node>) -> u64
+    ensures { result ≡ word (number_of (made_reply kept.answer)) kept.store.used (value_at (made_reply kept.answer) 0) 0 }
 {
-    let used = made.store.used;
-    let said = made.answer;
-    match said {
-        Made::Rule(node) => answer(0, used, node.number),
-        Made::Refused(k) => answer(k, used, 0),
+    let used = kept.store.used;
+    match kept.answer {
+        Ok(node) => answer(0, used, node.number),
+        Err(refusal) => answer(refusal.number(), used, 0),
     }
 }
 

@@ -3,7 +3,6 @@ ghost use Rattle.rule.specs.Calls.{Pack};
 ghost use Rattle.exports.specs.Word.{CodesOrder};
 
 use crate::values::answer;
-use rule::Drawn;
 
 // Pack: the order goes into ten lent bytes, which stay as they are where it is refused; the node count and the root.
 #[unsafe(no_mangle)]
@@ -16,14 +15,12 @@ pub extern "C" fn engine_pack(
 ) -> u64
     ensures { CodesOrder (λ a. Pack n table.now cells.old workspace.old a cells.new workspace.new) places.old result places.new }
 {
-    let packed = packing::pack(n, table, cells, workspace);
-    let found = packed.order.places;
-    let drawn = packed.answer;
-    match drawn {
-        Drawn::Diagram { nodes, root } => {
+    match packing::pack(n, table, cells, workspace) {
+        Ok(packed) => {
+            let found = packed.order.places;
             *places = found;
-            answer(0, nodes, root.number)
+            answer(0, packed.drawn.nodes, packed.drawn.root.number)
         }
-        Drawn::Refused(k) => answer(k, 0, 0),
+        Err(refusal) => answer(refusal.number(), 0, 0),
     }
 }

@@ -3,8 +3,8 @@ ghost use Rattle.std.proofs.Math.Option.{none};
 ghost use Rattle.rule.specs.Calls.{Replays};
 ghost use Rattle.exports.specs.Word.{CodesLoaded};
 
-use crate::values::tallied;
-use rule::{Done, Node, Order, Pass};
+use crate::values::{answer, tallied};
+use rule::{Node, Order};
 
 // Replay without a pass rule: how often each flag was asked goes into ten lent cells, which stay as they are where it is refused; snapshots played, yes answers
 // and changes.
@@ -20,23 +20,20 @@ pub extern "C" fn engine_replay(
 ) -> u64
     ensures { CodesLoaded (λ a. Replays n places.now cells.now used node none log.now a) asked.old result asked.new }
 {
-    let replayed = replaying::replay(
+    match replaying::replay(
         n,
         Order { places: *places },
         cells,
         used,
         Node { number: node },
-        Pass::EveryRow,
+        None,
         log,
-    );
-    let tally = replayed.tally;
-    let counts = tally.asked;
-    let said = replayed.answer;
-    match said {
-        Done::Accepted => {
+    ) {
+        Ok(tally) => {
+            let counts = tally.asked;
             *asked = counts;
-            tallied(0, tally)
+            tallied(tally)
         }
-        Done::Refused(k) => tallied(k, tally),
+        Err(refusal) => answer(refusal.number(), 0, 0),
     }
 }

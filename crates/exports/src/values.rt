@@ -31,9 +31,9 @@ pub fn loaded(n: u8, records: u16, root: u16) -> u64
     coded(0, n as u16, records, root)
 }
 
-// What a replay hands back, but for how often each flag was asked.
-pub fn tallied(refused: u8, tally: Tally) -> u64
-    ensures { result ≡ word refused tally.played tally.yes tally.changes }
+// What an accepted replay hands back, but for how often each flag was asked.
+pub fn tallied(tally: Tally) -> u64
+    ensures { result ≡ word 0 tally.played tally.yes tally.changes }
 {
-    coded(refused, tally.played, tally.yes, tally.changes)
+    coded(0, tally.played, tally.yes, tally.changes)
 }

@@ -1,3 +1,2 @@
 pub mod Fields
 mod Places
-pub mod Whole

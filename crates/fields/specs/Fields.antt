@@ -1,12 +1,12 @@
 -- What all the fields of a file come to.
 -- Assumes nothing.
-use Rattle.std.specs.Prelude.{◌≡◌, List, ℕ, ◌+◌, ◌*◌, ◌≤◌, length, get_or}
+use Rattle.std.specs.Prelude.{List, ℕ, ◌+◌, ◌*◌, ◌≤◌, length, get_or, Result}
 use Rattle.rule.specs.Bits.{bit}
 use Rattle.rule.specs.Cells.{room}
 use Rattle.rule.specs.Files.{flags_bit, order_bit, label_bit, records_bit, record_size, Outcome, and_then, field_if, read_flags, read_order, read_label, read_records}
-use Rattle.cursor.specs.declared.step.Cursor.{Cursor}
-use Rattle.cursor.specs.declared.step.Step.{Step}
-use Rattle.cursor.specs.Step.{outcome_of, map_read}
+use Rattle.rule.specs.declared.refusal.Refusal.{Refusal}
+use Rattle.cursor.specs.declared.place.Cursor.{Cursor}
+use Rattle.cursor.specs.Step.{Comes, map_read}
 
 -- a cursor stands behind the records, within the file; they are in the file, and the cells have room for them
 pub record Whole (c file : List ℕ) (x : Cursor) : Type 0 where
@@ -16,10 +16,9 @@ pub record Whole (c file : List ℕ) (x : Cursor) : Type 0 where
   pub records : x.records + x.count * record_size ≤ length file
   pub held : x.count ≤ room c
 
--- a step is this outcome
-pub record Ends (c file : List ℕ) (o : Outcome) (s : Step) : Type 0 where
-  pub is : outcome_of file s ≡ o
-  pub whole : Whole c file s.cursor
+-- a step behind the records
+abbrev pub Ends : List ℕ → List ℕ → Outcome → Result Cursor Refusal → Type 0
+Ends c file o s = Comes file (Whole c file) o s
 
 -- all fields
 unfoldable pub fields_read : List ℕ → List ℕ → Outcome

@@ -1,42 +1,39 @@
 ghost use Rattle.rule.specs.Bits.{bit};
-ghost use Rattle.rule.specs.Files.{label_bit, and_then, field_if, read_label};
-ghost use Rattle.cursor.specs.Step.{outcome_of, Before, Leads};
+ghost use Rattle.rule.specs.Files.{label_bit, field_if, read_label};
+ghost use Rattle.cursor.specs.Step.{reading_of, Before, Leads};
 
 use arguments::all_printable;
-use cursor::{Step, refused, stands};
-use rule::{LABEL_BIT, LONGEST_LABEL};
+use cursor::Cursor;
+use rule::{LABEL_BIT, LONGEST_LABEL, Refusal};
 
 // Bit 2, the label: for its length byte 11, then 13, then for its bytes 11, then 13.
-pub fn read_label(file: &[u8], map: u16, step: Step) -> Step
-    requires { Before file.now step.cursor }
-    ensures { Leads file.now (and_then (outcome_of file.now step) (field_if (bit map label_bit) (read_label file.now))) result }
+#[tactic(auto, using(cursor::proofs::Stepped::entered), unfolding(rule::specs::Files::read_label, rule::specs::Files::unless))]
+pub fn read_label(file: &[u8], map: u16, cursor: Cursor) -> Result<Cursor, Refusal>
+    requires { Before file.now cursor }
+    ensures { Leads file.now (field_if (bit map label_bit) (read_label file.now) (reading_of file.now cursor)) result }
 {
-    if !stands(step, map, LABEL_BIT) {
-        return step;
+    if bits::bit(map, LABEL_BIT) == 0 {
+        return Ok(cursor);
     }
-    let mut cursor = step.cursor;
-    let at = cursor.at;
-    if file.len() <= at {
-        return refused(11);
+    let Some(&length) = file.get(cursor.at) else {
+        return Err(Refusal::FileEnd);
+    };
+    let size = length as usize;
+    if size == 0 || LONGEST_LABEL < size {
+        return Err(Refusal::FileLabel);
     }
-    let size = file[at] as usize;
-    let start = at + 1;
-    let left = file.len() - start;
-    if size == 0 {
-        return refused(13);
+    let label = cursor.at + 1;
+    if file.len() - label < size {
+        return Err(Refusal::FileEnd);
     }
-    if LONGEST_LABEL < size {
-        return refused(13);
+    let end = label + size;
+    if !all_printable(&file[label..end]) {
+        return Err(Refusal::FileLabel);
     }
-    if left < size {
-        return refused(11);
-    }
-    let end = start + size;
-    if !all_printable(&file[start..end]) {
-        return refused(13);
-    }
-    cursor.label = start;
-    cursor.size = size;
-    cursor.at = end;
-    Step { refused: 0, cursor }
+    Ok(Cursor {
+        label,
+        size,
+        at: end,
+        ..cursor
+    })
 }

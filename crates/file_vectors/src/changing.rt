@@ -1,6 +1,5 @@
 // A file with one byte changed, cut, or one byte longer: a line for each. The file is left as it was.
 use crate::loading::load;
-use words::print;
 
 // The file with a byte at a place.
 fn with(file: &mut [u8], place: usize, byte: u8, lent: usize) {
@@ -14,43 +13,30 @@ fn with(file: &mut [u8], place: usize, byte: u8, lent: usize) {
 
 // v CELLS PLACE
 pub fn values(file: &mut [u8], lent: usize, place: usize) {
-    let mut value: u16 = 0;
-    while value < 256 {
-        with(file, place, (value % 256) as u8, lent);
-        value += 1;
+    for value in 0..=255 {
+        with(file, place, value, lent);
     }
-}
-
-// The sum of two bytes, modulo 256.
-fn sum(byte: u8, add: u8) -> u8 {
-    ((print::wide(byte) + print::wide(add)) % 256) as u8
 }
 
 // e CELLS ADD
 pub fn added(file: &mut [u8], lent: usize, add: u8) {
-    let mut i = 0;
-    while i < file.len() {
-        let byte = sum(file[i], add);
+    for i in 0..file.len() {
+        let byte = file[i].wrapping_add(add);
         with(file, i, byte, lent);
-        i += 1;
     }
 }
 
 // s CELLS BYTE
 pub fn set(file: &mut [u8], lent: usize, byte: u8) {
-    let mut i = 0;
-    while i < file.len() {
+    for i in 0..file.len() {
         with(file, i, byte, lent);
-        i += 1;
     }
 }
 
 // c CELLS
 pub fn cut(file: &[u8], lent: usize) {
-    let mut end = 0;
-    while end < file.len() {
-        load(&file[0..end], lent);
-        end += 1;
+    for end in 0..file.len() {
+        load(&file[..end], lent);
     }
 }
 

@@ -67,20 +67,10 @@ fn line(text: &[u8], file: &mut [u8], size: usize) -> usize {
     }
 }
 
-fn each_line(buffer: &mut [u8], file: &mut [u8]) {
-    let mut size = 0;
-    let mut found = lines::first(buffer);
-    while 0 < found.left {
-        let start = found.start;
-        let end = found.end;
-        size = line(&buffer[start..end], file, size);
-        found = lines::next(buffer, found);
-    }
-}
-
 // Every line of standard input.
 pub fn run() {
     let mut buffer = io::large_buffer();
     let mut file = [0u8; LONGEST];
-    each_line(&mut buffer, &mut file);
+    let mut size = 0;
+    lines::each(&mut buffer, |text| size = line(text, &mut file, size));
 }

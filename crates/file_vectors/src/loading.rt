@@ -1,6 +1,6 @@
 // A file that is read, and its label, with lent cells that are full of junk.
-use rule::{Loaded, Node, Order};
-use words::lent::{each_byte_is, each_is};
+use rule::{Loaded, Refusal};
+use words::lent::each_is;
 use words::print;
 
 // The cells that are lent at most: a record more than the paper allows.
@@ -9,21 +9,10 @@ pub const MOST_CELLS: usize = cells::MOST + cells::WIDTH;
 // What they are lent with.
 const JUNK: u16 = 7;
 
-// Whether a refused file gave zeros for an order and an empty label, and left the cells as they were lent.
-fn is_kept(order: Order, label: &[u8], cells: &[u16]) -> bool {
-    let places = order.places;
-    if label.len() != 0 {
-        return false;
-    }
-    if !each_byte_is(&places, 0) {
-        return false;
-    }
-    each_is(cells, JUNK)
-}
-
-fn refused(k: u8, order: Order, label: &[u8], cells: &[u16]) {
-    print::refused(k);
-    print::kept(is_kept(order, label, cells));
+// And whether there is no label, and the cells are as they were lent.
+fn refused(refusal: Refusal, label: &[u8], cells: &[u16]) {
+    print::refused(refusal.number());
+    print::kept(label.is_empty() && each_is(cells, &JUNK));
 }
 
 // The cells of so many records, and whether the others are 0.
@@ -35,38 +24,31 @@ fn records(count: u16, cells: &[u16]) {
         return;
     }
     print::numbers(&cells[0..end]);
-    if each_is(&cells[end..], 0) {
+    if each_is(&cells[end..], &0) {
         print::text(b" rest 0");
     } else {
         print::text(b" rest altered");
     }
 }
 
-fn accepted(n: u8, order: Order, count: u16, root: Node, label: &[u8], cells: &[u16]) {
-    let places = order.places;
-    print::number(b"n", n as u16);
+fn accepted(rule: Loaded, label: &[u8], cells: &[u16]) {
+    print::number(b"n", rule.n as u16);
     print::text(b" order ");
-    print::rows(&places);
-    print::number(b" records", count);
-    print::number(b" root", root.number);
+    print::rows(&rule.order.places);
+    print::number(b" records", rule.records);
+    print::number(b" root", rule.root.number);
     print::text(b" label ");
     print::bytes(label);
-    records(count, cells);
+    records(rule.records, cells);
 }
 
 // The line for a file that is read into lent cells.
 fn read(file: &[u8], cells: &mut [u16]) {
     let found = reading::read(file, cells);
     let label = reading::label(file, cells);
-    let order = found.order;
-    let answer = found.answer;
-    match answer {
-        Loaded::Rule {
-            n,
-            records: count,
-            root,
-        } => accepted(n, order, count, root, label, cells),
-        Loaded::Refused(k) => refused(k, order, label, cells),
+    match found {
+        Ok(rule) => accepted(rule, label, cells),
+        Err(refusal) => refused(refusal, label, cells),
     }
     print::line_end();
 }

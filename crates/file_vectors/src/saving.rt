@@ -1,8 +1,8 @@
 // A rule that is written into lent bytes that are full of junk.
 use crate::loading::MOST_CELLS;
-use rule::Written;
+use rule::Refusal;
 use words::diagram::{Asked, asked_at};
-use words::lent::{each_byte_is, fill};
+use words::lent::each_is;
 use words::print;
 use words::read::{bytes, cells, number};
 
@@ -23,25 +23,24 @@ fn written(size: usize, bytes: &[u8]) {
     }
     print::bytes(&bytes[0..size]);
     print::text(b" rest");
-    print::kept(each_byte_is(&bytes[size..], JUNK));
+    print::kept(each_is(&bytes[size..], &JUNK));
 }
 
-fn refused(k: u8, bytes: &[u8]) {
-    print::refused(k);
-    print::kept(each_byte_is(bytes, JUNK));
+fn refused(refusal: Refusal, bytes: &[u8]) {
+    print::refused(refusal.number());
+    print::kept(each_is(bytes, &JUNK));
 }
 
 // The line for a rule that is written: the file's length, 0 where it is refused.
 fn write(of: Asked, cells: &[u16], label: &[u8], bytes: &mut [u8]) -> usize {
-    fill(bytes, JUNK);
-    let answer = writing::write(of.n, of.order, cells, of.used, of.root, label, bytes);
-    match answer {
-        Written::Bytes(size) => {
+    bytes.fill(JUNK);
+    match writing::write(of.n, of.order, cells, of.used, of.root, label, bytes) {
+        Ok(size) => {
             written(size, bytes);
             size
         }
-        Written::Refused(k) => {
-            refused(k, bytes);
+        Err(refusal) => {
+            refused(refusal, bytes);
             0
         }
     }

@@ -4,7 +4,7 @@ ghost use Rattle.apply.specs.Grow.{Ready, From, Comes};
 
 use apply::{both_branches, branch, level_of};
 use levels::Levels;
-use unique::{Found, Grown};
+use unique::Grown;
 
 // Restrict: the node of a node's rule with a flag fixed to a value, where the node asks no flag before level `at`.
 pub fn fix_node(
@@ -25,18 +25,16 @@ pub fn fix_node(
         let fixed = branch(cells, flag, value, m);
         return Grown {
             used,
-            found: Found::At(fixed),
+            found: Some(fixed),
         };
     }
     let asked = cells::flag_at(cells, m - 2);
+    let next = own + 1;
     let by = both_branches(cells, asked, m);
-    let no = fix_node(levels, flag, value, own + 1, by.no, cells, index, used);
-    let lower = no.found;
-    match lower {
-        Found::Full => no,
-        Found::At(low) => {
-            let yes = fix_node(levels, flag, value, own + 1, by.yes, cells, index, no.used);
-            unique::make_above(cells, index, asked, low, yes)
-        }
-    }
+    let no = fix_node(levels, flag, value, next, by.no, cells, index, used);
+    let Some(low) = no.found else {
+        return no;
+    };
+    let yes = fix_node(levels, flag, value, next, by.yes, cells, index, no.used);
+    unique::make_above(cells, index, asked, low, yes)
 }

@@ -3,22 +3,19 @@
 #![tactic(auto)]
 
 ghost use Rattle.std.specs.Prelude.{◌≡◌, ◌*◌, length};
-ghost use Rattle.ways.specs.Ways.{Foldable};
 ghost use Rattle.folding.specs.Fold.{Folds, Counts};
 
 use way_index::{INDEX, find_or_enter};
-use ways::code_at;
+use ways::Halves;
 
-// Folds the source at bit p into the lent stretch: the code of a way is the first way that has the same code in both halves of the source.
-pub fn fold(source: &[u16], p: u16, stretch: &mut [u16])
-    requires { Foldable source.now p × (length source.now ≡ length stretch.old * 2) }
-    ensures { Folds source.now p stretch.new }
+// Folds the halves into the lent stretch: the code of a way is the first way that has the same code in both halves of the source.
+pub fn fold(halves: Halves, stretch: &mut [u16])
+    requires { length halves.source.now ≡ length stretch.old * 2 }
+    ensures { Folds halves.entry.source.now halves.entry.p stretch.new }
 {
     let mut index = [0u16; INDEX];
-    let mut i: u16 = 0;
-    while (i as usize) < stretch.len() {
-        stretch[i as usize] = find_or_enter(source, p, &mut index, i);
-        i += 1;
+    for (i, code) in stretch.iter_mut().enumerate() {
+        *code = find_or_enter(halves, &mut index, i as u16);
     }
 }
 
@@ -30,21 +27,19 @@ pub struct Asking {
 }
 
 // Both counts, held in 16 bits: there are at most 512 ways, so a level never has more than 512 nodes. The codes may have been folded from another source.
-pub fn count(source: &[u16], p: u16, codes: &[u16]) -> Asking
-    requires { Foldable source.now p × (length source.now ≡ length codes.now * 2) }
-    ensures { Counts source.now p codes.now result.nodes result.ways }
+pub fn count(halves: Halves, codes: &[u16]) -> Asking
+    requires { length halves.source.now ≡ length codes.now * 2 }
+    ensures { Counts halves.entry.source.now halves.entry.p codes.now result.nodes result.ways }
 {
     let mut nodes: u16 = 0;
     let mut ways: u16 = 0;
-    let mut i: u16 = 0;
-    while (i as usize) < codes.len() {
-        if code_at(source, p, i, 0) != code_at(source, p, i, 1) {
+    for i in 0..codes.len() as u16 {
+        if halves.code_at(i, 0) != halves.code_at(i, 1) {
             ways += 1;
             if codes[i as usize] == i {
                 nodes += 1;
             }
         }
-        i += 1;
     }
     Asking {
         nodes: nodes as u64,

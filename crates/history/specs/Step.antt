@@ -6,7 +6,7 @@ use Rattle.rule.specs.History.{Call, Meets}
 use Rattle.store.specs.State.{state_of}
 use Rattle.asking.specs.declared.answers.Reached.{Reached}
 use Rattle.asking.specs.declared.requests.Request.{Request}
-use Rattle.asking.specs.Answer.{reached_reply, answer_kind, Beside}
+use Rattle.asking.specs.Answer.{reached_reply, answer_kind}
 use Rattle.asking.specs.Request.{asked_by, part, request_kind}
 
 -- the call as it was made: it reached r, and left cells d and, of bytes that were b, b'
@@ -27,7 +27,5 @@ pub record Steps (q : Request) (s given : State) (c b : List ℕ) (r : Reached) 
   pub met : Meets s c (call_of q given b r d b')
   -- its answer is of the kind that belongs to it
   pub kind : answer_kind r.answer ≡ request_kind q
-  -- with no tally beside it but a log's
-  pub beside : Beside (request_kind q) r.tally
   -- bytes behind those that it was lent are as found
   pub behind : drop (part q) b' ≡ drop (part q) b

@@ -4,11 +4,12 @@ ghost use Rattle.store.specs.State.{state_of};
 ghost use Rattle.asking.specs.Request.{making_of};
 ghost use Rattle.history.specs.Step.{Steps};
 
-use asking::{Making, Reached, Request, ask, done, made};
-use store::{Store, Stored};
+use asking::{Answer, Making, Reached, Request, answered, ask};
+use rule::Node;
+use store::{Kept, Store};
 
 // Make one call that makes a rule with records.
-fn make(store: Store, cells: &mut [u16], making: Making) -> Stored
+fn make(store: Store, cells: &mut [u16], making: Making) -> Kept<Node>
     ensures { Make (state_of store) cells.old (making_of making) (made_reply result.answer) (state_of result.store) cells.new }
 {
     match making {
@@ -38,9 +39,9 @@ pub fn step(
     ensures { Steps request (state_of store) (state_of given) cells.old bytes.old result cells.new bytes.new }
 {
     match request {
-        Request::Open => done(given.open(cells)),
-        Request::Constant(value) => made(store.constant(cells, value)),
-        Request::Make(making) => made(make(store, cells, making)),
+        Request::Open => answered(given.open(cells), Answer::Done),
+        Request::Constant(value) => answered(store.constant(cells, value), Answer::Made),
+        Request::Make(making) => answered(make(store, cells, making), Answer::Made),
         Request::Ask(query) => ask(store, cells, query, bytes),
     }
 }

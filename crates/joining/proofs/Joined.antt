@@ -23,7 +23,7 @@ use Rattle.apply.specs.Step.{earlier}
 use Rattle.apply.specs.Grow.{Ready, From, Comes}
 use Rattle.apply.proofs.Down.{lev, lev_of, ord, asks, ends, end_level, node_rows_lem, branch_from, branch_table, earlier_is, later_from, later_table, there}
 use Rattle.terminals.specs.Terminal.{terminal}
-use Rattle.terminals.specs.declared.terminal.Terminal.TheVariants.{Node, Down}
+use Rattle.std.specs.Prelude.{Some, None}
 use Rattle.terminals.proofs.Terminals.{terminal_value, terminal_is, down_not}
 
 module _ {l : Levels} {c index : List ℕ} {used at f g : ℕ} (r : Ready l c used index) (x : From l c used at f) (y : From l c used at g) where
@@ -38,7 +38,7 @@ module _ {l : Levels} {c index : List ℕ} {used at f g : ℕ} (r : Ready l c us
 
   -- ---- a terminal case
 
-  module _ (code : ℕ) {m : ℕ} (e : terminal code f g ≡ Node m) where
+  module _ (code : ℕ) {m : ℕ} (e : terminal code f g ≡ Some m) where
     at_most : at ≤ l.n
     at_most = omega (arith, x.later, level_le r.is_sound (ord r) f x.node)
 
@@ -58,7 +58,7 @@ module _ {l : Levels} {c index : List ℕ} {used at f g : ℕ} (r : Ready l c us
 
   -- ---- where there is none, the earlier node is a record, whose flag is the first that either asks
 
-  module _ (code : ℕ) {e : ℕ} (down : terminal code f g ≡ Down) (q : e ≡ earlier l.n l.order.places c f g) where
+  module _ (code : ℕ) {e : ℕ} (down : terminal code f g ≡ None) (q : e ≡ earlier l.n l.order.places c f g) where
     pub is_record : 2 ≤ e
     is_record =
         elim (dec_lt e 2) [

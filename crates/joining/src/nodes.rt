@@ -4,8 +4,8 @@ ghost use Rattle.apply.specs.Grow.{Ready, From, Comes};
 
 use apply::{both_branches, earlier};
 use levels::Levels;
-use terminals::{Terminal, terminal_case};
-use unique::{Found, Grown};
+use terminals::terminal_case;
+use unique::Grown;
 
 // Apply: the node of two nodes' rules joined by an operator, where neither asks a flag before level `at`.
 pub fn join_nodes(
@@ -21,13 +21,11 @@ pub fn join_nodes(
     requires { (code ≤ 15) × Ready levels cells.old used index.old × From levels cells.old used at f × From levels cells.old used at g }
     ensures { Comes levels (made_in levels.n cells.old (join code f g)) at cells.old used result cells.new index.new }
 {
-    let known = terminal_case(code, f, g);
-    match known {
-        Terminal::Node(m) => return Grown {
+    if let Some(m) = terminal_case(code, f, g) {
+        return Grown {
             used,
-            found: Found::At(m),
-        },
-        Terminal::Down => {}
+            found: Some(m),
+        };
     }
     let top = earlier(levels, cells, f, g);
     let flag = cells::flag_at(cells, top - 2);
@@ -35,12 +33,9 @@ pub fn join_nodes(
     let fs = both_branches(cells, flag, f);
     let gs = both_branches(cells, flag, g);
     let no = join_nodes(levels, code, next, fs.no, gs.no, cells, index, used);
-    let lower = no.found;
-    match lower {
-        Found::Full => no,
-        Found::At(low) => {
-            let yes = join_nodes(levels, code, next, fs.yes, gs.yes, cells, index, no.used);
-            unique::make_above(cells, index, flag, low, yes)
-        }
-    }
+    let Some(low) = no.found else {
+        return no;
+    };
+    let yes = join_nodes(levels, code, next, fs.yes, gs.yes, cells, index, no.used);
+    unique::make_above(cells, index, flag, low, yes)
 }

@@ -5,9 +5,9 @@ ghost use Rattle.fields.specs.Fields.{Whole};
 ghost use Rattle.laying.specs.Aside.{Tested, ReadAside};
 
 use crate::records::lay;
-use cursor::{Cursor, Step, bit_map, refused};
+use cursor::{Cursor, bit_map};
 use fields::read_fields;
-use rule::{Node, YES_BIT};
+use rule::{Node, Refusal, YES_BIT};
 
 // The root: the last record, or the end node of bit 4.
 pub fn root_of(map: u16, count: u16) -> Node
@@ -28,35 +28,25 @@ fn lay_diagram(file: &[u8], cursor: Cursor, root: u16, held: &mut [u16]) -> bool
     requires { Whole held.old file.now cursor × (room held.old ≤ most_records) × (held.old ≡ replicate (length held.old) 0) × (root ≤ cursor.count + 1) }
     ensures { Tested file.now cursor root held.old result held.new }
 {
-    let start = cursor.records;
-    let count = cursor.count;
-    let n = cursor.n;
-    let order = cursor.order;
-    lay(file, start, count, held);
-    checking::is_diagram(n, order, held, count, root)
+    lay(file, cursor.records, cursor.count, held);
+    checking::is_diagram(cursor.n, cursor.order, held, cursor.count, root)
 }
 
 // The file read and tested: 5, its fields, 11 for bytes left over, then 6. Where nothing is refused, its records lie in the first of `held`.
-pub fn read_aside(file: &[u8], cells: &[u16], held: &mut [u16]) -> Step
+pub fn read_aside(file: &[u8], cells: &[u16], held: &mut [u16]) -> Result<Cursor, Refusal>
     requires { held.old ≡ replicate most_cells 0 }
     ensures { ReadAside cells.now file.now held.new result }
 {
     if !cells::fit_cells(cells) {
-        return refused(5);
+        return Err(Refusal::CellsLength);
     }
-    let step = read_fields(file, cells);
-    if step.refused != 0 {
-        return step;
-    }
-    let cursor = step.cursor;
-    let at = cursor.at;
-    if at < file.len() {
-        return refused(11);
+    let cursor = read_fields(file, cells)?;
+    if cursor.at < file.len() {
+        return Err(Refusal::FileEnd);
     }
     let root = root_of(bit_map(file), cursor.count);
-    let len = cells.len();
-    if !lay_diagram(file, cursor, root.number, &mut held[0..len]) {
-        return refused(6);
+    if !lay_diagram(file, cursor, root.number, &mut held[..cells.len()]) {
+        return Err(Refusal::Records);
     }
-    step
+    Ok(cursor)
 }

@@ -11,13 +11,10 @@ pub fn lay(file: &[u8], start: usize, count: u16, cells: &mut [u16])
     requires { (start + count * record_size ≤ length file.now) × (count ≤ room cells.old) × (cells.old ≡ replicate (length cells.old) 0) }
     ensures { cells.new ≡ laid_in cells.old (map (record_at file.now start) (below count)) }
 {
-    let mut k: u16 = 0;
-    while k < count {
+    for k in 0..count {
         let at = start + k as usize * RECORD_SIZE;
-        let flag = file[at] as u16;
         let low = two_at(file, at + 1);
         let high = two_at(file, at + 3);
-        cells::put(cells, k, flag, low, high);
-        k += 1;
+        cells::put(cells, k, file[at] as u16, low, high);
     }
 }

@@ -1,7 +1,7 @@
 -- What is printed, from the refusal of the line and the answer of pack.
 -- Assumes nothing.
 use mathlib.Core.Path.{◌≡◌, refl, sym, ap, ◌∙◌}
-use mathlib.Core.Bool.{true, false, not}
+use mathlib.Core.Bool.{true, false}
 use mathlib.Core.List.{List, [], ◌∷◌}
 use Prim.Native.Nat.{ℕ, zero, suc, ◌+◌, ◌^◌, ◌≤◌, ◌<◌}
 use native.Mathlib.Decide.{ℕ_discrete}
@@ -22,8 +22,8 @@ use Rattle.rule.specs.Results.{root_by}
 use Rattle.rule.specs.Sequence.{drawing}
 use Rattle.rule.specs.Calls.{Pack}
 use Rattle.rule.specs.Demands.{Fit}
-use Rattle.rule.specs.Listing.{most_rows, is_digit, flags_of, rows_of, line_rows, workspace_cells, short_workspace, listing_rows, word_line, asking_packed, listed, listed_or}
-use Rattle.theory.proofs.Refused.{row_passed, refused-more, passed_more, refused_is, accepted_is}
+use Rattle.rule.specs.Listing.{most_rows, is_digit, flags_of, line_rows, workspace_cells, short_workspace, listing_rows, word_line, asking_packed, listed, listed_or}
+use Rattle.theory.proofs.Refused.{row_passed, passed, refused-more, refused_is, accepted_is}
 use Rattle.theory.proofs.Drawing.{drawing-length}
 use Rattle.theory.proofs.Orders.{packed_fit, packed_flags}
 use Rattle.demands.proofs.Exists.{size_few}
@@ -39,27 +39,17 @@ refused-listed (suc k) n t d = refl
 
 -- ---- the line
 
-module _ (line : List ℕ) {k : ℕ} (e : k ≡ refusal (line_rows line)) where
-  pub line_refused : (n : ℕ) (t : List ℕ) → (k ≡ 0 → ⊥) → word_line "refused" k ≡ listed_or (refusal (listing_rows line)) n t
-  line_refused n t d =
+module _ (line : List ℕ) where
+  pub line_refused : {k : ℕ} → k ≡ refusal (line_rows line) → (n : ℕ) (t : List ℕ) → (k ≡ 0 → ⊥)
+      → word_line "refused" k ≡ listed_or (refusal (listing_rows line)) n t
+  line_refused {k} e n t d =
       refused-listed k n t d
       ∙ ap (λ (i : ℕ). listed_or i n t) (e ∙ refused-more (line_rows line) (short_workspace (flags_of line) ∷ []) (λ q. d (e ∙ q)))
 
-  module _ (z : k ≡ 0) where
-    line_passed : refusal (short_workspace (flags_of line) ∷ []) ≡ refusal (listing_rows line)
-    line_passed = passed_more (line_rows line) (short_workspace (flags_of line) ∷ []) refl (sym e ∙ z)
-
-    pub line_fits : (length line ≤ most_rows) × (flags_of line ≤ 10) × (each is_digit line ≡ true)
-    line_fits =
-        let (a, p) = row_passed (ltb most_rows (length line)) 0 ((ltb 10 (flags_of line), 2) ∷ (not (each is_digit line), 3) ∷ []) (sym e ∙ z) in
-        let (b, q) = row_passed (ltb 10 (flags_of line)) 1 ((not (each is_digit line), 3) ∷ []) p in
-        let (c, _) = row_passed (not (each is_digit line)) 2 [] q in
-        (ltb-false most_rows (length line) a, ltb-false 10 (flags_of line) b, not-false _ c)
-
-    -- what is listed of the rows that it stands for
-    pub line_listed : {n : ℕ} {t : List ℕ} → n ≡ flags_of line → t ≡ rows_of line
-        → listed_or (refusal (short_workspace n ∷ [])) n t ≡ listed_or (refusal (listing_rows line)) (flags_of line) (rows_of line)
-    line_listed p q = rw (p, q, ← line_passed)
+  pub line_fits : 0 ≡ refusal (line_rows line) → (length line ≤ most_rows) × (flags_of line ≤ 10) × (each is_digit line ≡ true)
+  line_fits e =
+      let (a, (b, (c, _))) = passed (line_rows line) refl (sym e) in
+      (ltb-false most_rows (length line) a, ltb-false 10 (flags_of line) b, not-false _ c)
 
 -- ---- the table
 

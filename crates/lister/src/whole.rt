@@ -5,9 +5,8 @@ ghost use Rattle.rule.specs.Listing.{flags_of, rows_of, short_workspace, listing
 ghost use Rattle.runs.specs.Run.{Puts};
 ghost use Rattle.report.specs.Report.{most_printed};
 
-use parsing::{MOST_ROWS, flags_of, line_end, line_refusal, read_rows};
+use parsing::{MOST_ROWS, flags_of, line_end, read_rows, test_line};
 use report::{PRINTED, put_report};
-use rule::Drawn;
 use runs::put_line;
 
 // "The workspace is 6,561 cells": too few for nine flags, which pack then refuses.
@@ -20,12 +19,9 @@ fn list_table(n: u8, table: &[u8], out: &mut [u8]) -> usize
 {
     let mut cells = [0u16; cells::MOST];
     let mut workspace = [0u16; WORKSPACE];
-    let packed = packing::pack(n, table, &mut cells, &mut workspace);
-    let order = packed.order;
-    let answer = packed.answer;
-    match answer {
-        Drawn::Refused(k) => put_line(out, 0, b"refused", k as u16),
-        Drawn::Diagram { nodes, root } => put_report(out, n, table, order, &cells, nodes),
+    match packing::pack(n, table, &mut cells, &mut workspace) {
+        Ok(packed) => put_report(out, n, table, packed.order, &cells, packed.drawn.nodes),
+        Err(refusal) => put_line(out, 0, b"refused", refusal.number() as u16),
     }
 }
 
@@ -34,14 +30,14 @@ fn list_line(line: &[u8], out: &mut [u8]) -> usize
     requires { most_printed ≤ length out.old }
     ensures { Puts out.old 0 (listed_or (refusal (listing_rows line.now)) (flags_of line.now) (rows_of line.now)) result out.new }
 {
-    let refused = line_refusal(line);
-    if refused != 0 {
-        return put_line(out, 0, b"refused", refused as u16);
+    if let Err(refusal) = test_line(line) {
+        return put_line(out, 0, b"refused", refusal.number() as u16);
     }
-    let mut rows = [0u8; MOST_ROWS];
-    let count = line.len();
-    read_rows(line, &mut rows[0..count]);
-    list_table(flags_of(count), &rows[0..count], out)
+    // kept: rig_tally has these lines too. A function for both would be lent the table and hand back a part of it: its contract alone is longer.
+    let mut table = [0u8; MOST_ROWS];
+    let rows = &mut table[..line.len()];
+    read_rows(line, rows);
+    list_table(flags_of(line.len()), rows, out)
 }
 
 // The listing of an input, in the first of the lent bytes; how many they are.

@@ -18,10 +18,8 @@ use Rattle.theory.proofs.Refused.{numbered, passed_more}
 use Rattle.theory.proofs.Orders.{fit_order_is}
 use Rattle.theory.proofs.Sound.{sound_shape}
 use Rattle.levels.specs.declared.level.Levels.{Levels}
-use Rattle.levels.specs.Level.{Turned}
 use Rattle.unique.specs.declared.node.Grown.{Grown}
-use Rattle.unique.specs.declared.node.Found.{Found}
-use Rattle.unique.specs.declared.node.Found.TheVariants.{At, Full}
+use Rattle.std.specs.Prelude.{Option, Some, None}
 use Rattle.unique.specs.Search.{Grew}
 use Rattle.unique.proofs.Settled.{Settled, Unsettled, settled, unsettled}
 use Rattle.checking.proofs.Refused.{Taken}
@@ -68,10 +66,9 @@ module _ (s : State) (c : List ℕ) (x : Making) where
       fits = sound_room s.n s.places c s.used lent.is_sound
 
       -- what a recursion is given
-      pub ready : {l : Levels} → l.n ≡ s.n → l.order.places ≡ s.places → Turned l → Ready l c s.used index
-      ready e f turned =
+      pub ready : {l : Levels} → l.n ≡ s.n → l.order.places ≡ s.places → Ready l c s.used index
+      ready e f =
           record {
-            turned = turned;
             order_fits = rw (e, f) lent.ordered;
             is_sound = rw (e, f) (sound_shape s.n s.places c s.used lent.is_sound);
             small = fit_room c lent.lent;
@@ -107,10 +104,10 @@ module _ (s : State) (c : List ℕ) (x : Making) where
           grew : Grew s.n s.places (nodes_of (flags s.n s.places) (made_in s.n c x)) 0 (made_in s.n c x) c s.used p d
           grew = rw (n-is, order_is) at comes.grew
 
-          go : (f : Found) → p.found ≡ f → Concludes f d s.used p.used r e → Make s c x (made_reply r.answer) (with_used s r.used) e
-          go (At m) q (used, answer, cells) =
+          go : (f : Option ℕ) → p.found ≡ f → Concludes f d s.used p.used r e → Make s c x (made_reply r.answer) (with_used s r.used) e
+          go (Some m) q (used, answer, cells) =
               rw (used, answer, cells)
               (made (settled s (sound_shape s.n s.places c s.used lent.is_sound) (fit_order_is s.n s.places lent.ordered) grew q))
-          go Full q (used, answer, cells) =
+          go None q (used, answer, cells) =
               let u = unsettled s (sound_shape s.n s.places c s.used lent.is_sound) (fit_order_is s.n s.places lent.ordered) grew q in
               rw (used, answer, cells, u.cleared) (no_room u)

@@ -1,3 +1,2 @@
 pub mod Fits
 pub mod Answered
-pub mod Valued

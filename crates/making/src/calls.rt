@@ -2,7 +2,7 @@ ghost use Rattle.rule.specs.Answers.{made_reply};
 ghost use Rattle.rule.specs.Calls.{Flag, Join, Choose, Fix};
 ghost use Rattle.making.specs.State.{state};
 
-use concluding::{Outcome, conclude, refuse};
+use concluding::{Outcome, conclude};
 use levels::Levels;
 use rule::{Node, Order};
 
@@ -11,9 +11,11 @@ pub fn flag(n: u8, order: Order, cells: &mut [u16], used: u16, i: u16) -> Outcom
     ensures { Flag (state n order.places used) cells.old i (made_reply result.answer) (state n order.places result.used) cells.new }
 {
     let mut index = [0u16; record_index::INDEX];
-    let refused = refusing::flag_refusal(n, order, cells, used, i, &mut index);
-    if refused != 0 {
-        return refuse(used, refused);
+    if let Err(refusal) = refusing::test_flag(n, order, cells, used, i, &mut index) {
+        return Outcome {
+            used,
+            answer: Err(refusal),
+        };
     }
     let levels = Levels::turn(n, order);
     let grown = apply::flag_node(levels, i, cells, &mut index, used);
@@ -35,9 +37,11 @@ pub fn join(
     let f = first.number;
     let g = second.number;
     let mut index = [0u16; record_index::INDEX];
-    let refused = refusing::join_refusal(n, order, cells, used, code, f, g, &mut index);
-    if refused != 0 {
-        return refuse(used, refused);
+    if let Err(refusal) = refusing::test_join(n, order, cells, used, code, f, g, &mut index) {
+        return Outcome {
+            used,
+            answer: Err(refusal),
+        };
     }
     let levels = Levels::turn(n, order);
     let grown = joining::join_nodes(levels, code, 0, f, g, cells, &mut index, used);
@@ -60,9 +64,11 @@ pub fn choose(
     let g = second.number;
     let h = third.number;
     let mut index = [0u16; record_index::INDEX];
-    let refused = refusing::nodes_refusal(n, order, cells, used, f, g, h, &mut index);
-    if refused != 0 {
-        return refuse(used, refused);
+    if let Err(refusal) = refusing::test_nodes(n, order, cells, used, f, g, h, &mut index) {
+        return Outcome {
+            used,
+            answer: Err(refusal),
+        };
     }
     let levels = Levels::turn(n, order);
     let grown = choosing::choose_nodes(levels, 0, f, g, h, cells, &mut index, used);
@@ -83,9 +89,11 @@ pub fn fix(
 {
     let m = rule.number;
     let mut index = [0u16; record_index::INDEX];
-    let refused = refusing::fix_refusal(n, order, cells, used, m, i, value, &mut index);
-    if refused != 0 {
-        return refuse(used, refused);
+    if let Err(refusal) = refusing::test_fix(n, order, cells, used, m, i, value, &mut index) {
+        return Outcome {
+            used,
+            answer: Err(refusal),
+        };
     }
     let levels = Levels::turn(n, order);
     let grown = fixing::fix_node(levels, i, value, 0, m, cells, &mut index, used);

@@ -1,15 +1,15 @@
 // The words that an answer of the store's calls is noted in (document 01, "The book beside the store"): its number, and the values that it hands back.
 #![tactic(auto)]
 
-ghost use Rattle.std.specs.Prelude.{◌≡◌, ◌∷◌, ◌+◌, ◌*◌, ◌≤◌, length, replicate};
+ghost use Rattle.std.specs.Prelude.{◌≡◌, ◌∷◌, ◌+◌, ◌*◌, ◌≤◌, length, replicate, Ok};
 ghost use Rattle.std.proofs.lemmas.List.Edits.{sets};
-ghost use Rattle.rule.specs.Answers.{done_reply, made_reply, said_reply, sought_reply};
+ghost use Rattle.rule.specs.Answers.{refusal_number};
 ghost use Rattle.tallying.specs.Tally.{tallied_reply};
 ghost use Rattle.asking.specs.Answer.{answer_reply};
 ghost use Rattle.noting.specs.Noted.{note_words, note_of, Tells};
 
 use asking::Answer;
-use rule::{Done, Made, Said, Sought};
+use rule::Refusal;
 use tallying::Tally;
 
 // The values that a call hands back at most: those of a tally.
@@ -25,11 +25,11 @@ struct Words {
     values: [u16; VALUES],
 }
 
-fn refused(k: u8) -> Words
-    ensures { (result.number ≡ k) × (result.values ≡ replicate 13 0) }
+fn refused(refusal: Refusal) -> Words
+    ensures { (result.number ≡ refusal_number refusal) × (result.values ≡ replicate 13 0) }
 {
     Words {
-        number: k as u16,
+        number: refusal.number() as u16,
         values: [0u16; VALUES],
     }
 }
@@ -44,107 +44,39 @@ fn accepted(first: u16, second: u16, third: u16) -> Words
     Words { number: 0, values }
 }
 
-fn done(answer: Done) -> Words
-    ensures { Tells result.number result.values (done_reply answer) }
+fn counted(tally: Tally) -> Words
+    ensures { Tells result.number result.values (tallied_reply (Ok tally)) }
 {
-    match answer {
-        Done::Accepted => accepted(0, 0, 0),
-        Done::Refused(k) => refused(k),
-    }
+    let mut values = [0u16; VALUES];
+    values[0] = tally.played;
+    values[1] = tally.yes;
+    values[2] = tally.changes;
+    values[3..].copy_from_slice(&tally.asked);
+    Words { number: 0, values }
 }
 
-fn made(answer: Made) -> Words
-    ensures { Tells result.number result.values (made_reply answer) }
+fn noted(answer: Answer) -> Words
+    ensures { Tells result.number result.values (answer_reply answer) }
 {
-    match answer {
-        Made::Rule(node) => accepted(node.number, 0, 0),
-        Made::Refused(k) => refused(k),
-    }
+    let words = match answer {
+        Answer::Done(done) => done.map(|()| accepted(0, 0, 0)),
+        Answer::Made(made) => made.map(|node| accepted(node.number, 0, 0)),
+        Answer::Said(walked) => {
+            walked.map(|said| accepted(said.answer as u16, said.asked, said.count as u16))
+        }
+        Answer::Sought(sought) => sought.map(|row| accepted(row, 0, 0)),
+        Answer::Tallied(tallied) => tallied.map(counted),
+    };
+    words.unwrap_or_else(refused)
 }
 
-fn said(answer: Said) -> Words
-    ensures { Tells result.number result.values (said_reply answer) }
-{
-    match answer {
-        Said::Answer {
-            answer,
-            asked,
-            count,
-        } => accepted(answer as u16, asked, count as u16),
-        Said::Refused(k) => refused(k),
-    }
-}
-
-fn sought(answer: Sought) -> Words
-    ensures { Tells result.number result.values (sought_reply answer) }
-{
-    match answer {
-        Sought::Row(row) => accepted(row, 0, 0),
-        Sought::Refused(k) => refused(k),
-    }
-}
-
-fn tallied(tally: Tally, answer: Done) -> Words
-    ensures { Tells result.number result.values (tallied_reply tally answer) }
-{
-    let asked = tally.asked;
-    let values = [
-        tally.played,
-        tally.yes,
-        tally.changes,
-        asked[0],
-        asked[1],
-        asked[2],
-        asked[3],
-        asked[4],
-        asked[5],
-        asked[6],
-        asked[7],
-        asked[8],
-        asked[9],
-    ];
-    match answer {
-        Done::Accepted => Words { number: 0, values },
-        Done::Refused(k) => Words {
-            number: k as u16,
-            values,
-        },
-    }
-}
-
-fn noted(answer: Answer, tally: Tally) -> Words
-    ensures { Tells result.number result.values (answer_reply tally answer) }
-{
-    match answer {
-        Answer::Done(a) => done(a),
-        Answer::Made(a) => made(a),
-        Answer::Said(a) => said(a),
-        Answer::Sought(a) => sought(a),
-        Answer::Tallied(a) => tallied(tally, a),
-    }
-}
-
-// Writes the values, one behind the other.
-fn put_values(answers: &mut [u16], at: usize, values: [u16; VALUES])
-    requires { at + 13 ≤ length answers.old }
-    ensures { answers.new ≡ sets answers.old at values }
-{
-    let mut i = 0;
-    while i < VALUES {
-        let to = at + i;
-        answers[to] = values[i];
-        i += 1;
-    }
-}
-
-// Notes the answer of call k, with the tally that stands beside it, in its words.
-pub fn note(answers: &mut [u16], k: usize, answer: Answer, tally: Tally)
+// Notes the answer of call k in its words.
+pub fn note(answers: &mut [u16], k: usize, answer: Answer)
     requires { k * note_words + note_words ≤ length answers.old }
-    ensures { answers.new ≡ sets answers.old (k * note_words) (note_of (answer_reply tally answer)) }
+    ensures { answers.new ≡ sets answers.old (k * note_words) (note_of (answer_reply answer)) }
 {
-    let words = noted(answer, tally);
+    let words = noted(answer);
     let to = k * NOTE;
-    let values = words.values;
     answers[to] = words.number;
-    put_values(answers, to + 1, values);
+    answers[to + 1..to + NOTE].copy_from_slice(&words.values);
 }

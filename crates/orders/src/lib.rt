@@ -3,4 +3,4 @@
 
 mod order;
 
-pub use order::{fit_order, order_refusal};
+pub use order::{fit_order, test_order};

@@ -4,4 +4,5 @@
 mod line;
 mod page;
 
-pub use page::{PAGE_BYTES, RECORD_LINES, put_page};
+pub use line::Sheet;
+pub use page::{PAGE_BYTES, RECORD_LINES};

@@ -10,6 +10,8 @@ use native.Mathlib.Omega.{arith}
 use borrow.Author.Tests.{eq-eqb, ne_eqb}
 use lib.ListN.{length, get_or, take}
 use lib.Seq.{take-length}
+use Rattle.std.specs.Prelude.{Option, None, Some, MatchOption}
+use Rattle.std.specs.Option.{unwrap_or}
 use Rattle.rule.specs.Text.{read_line}
 use Rattle.rule.specs.Listing.{flags_from}
 use Rattle.theory.proofs.Lines.{line_ends, line_goes_on}
@@ -28,6 +30,21 @@ unfolding read_line
 line_all [] f = refl
 line_all (b ∷ bs) f =
     ap (λ (l : List ℕ). b ∷ l) (line_all bs (λ k j. f (suc k) (omega arith))) ∙ sym (ap (λ (r : List ℕ × List ℕ). r.0) (line_goes_on b bs (f 0 (omega arith))))
+
+-- no byte before a place ends the line
+abbrev pub Open : List ℕ → ℕ → Type 0
+Open l i = (k : ℕ) → k < i → get_or l k 0 ≡ 10 → ⊥
+
+pub open_more : (l : List ℕ) (i : ℕ) → Open l i → (get_or l i 0 ≡ 10 → ⊥) → Open l (i + 1)
+open_more l i f d k h = elim (ℕ_discrete k i) [ yes e ↦ rw e d | no g ↦ f k (omega arith) ]
+
+-- the place of the first byte that does, where there is one
+abbrev pub FirstEnd : List ℕ → Option ℕ → Type 0
+FirstEnd l o = MatchOption o (Open l (length l)) (λ i. (i < length l) × (get_or l i 0 ≡ 10) × Open l i)
+
+pub line_found : (l : List ℕ) (o : Option ℕ) → FirstEnd l o → (unwrap_or o (length l) ≤ length l) × (take (unwrap_or o (length l)) l ≡ (read_line l).0)
+line_found l None f = (omega arith, rw take-length (line_all l f))
+line_found l (Some i) (h, e, f) = (omega arith, line_to l i h f e)
 
 -- ---- the flags
 
@@ -59,12 +76,12 @@ module _ (n rows : ℕ) (h : n < 11) (p : Passed n rows) where
       let s : n + 1 ≡ suc n = omega arith in
       (omega arith, left ∙ flags_on (10 - n) n rows d ∙ rw (e, s))
 
-pub flags-none : (n rows : ℕ) → 11 ≤ n → Passed n rows → n ≡ flags_from 11 0 rows
+pub flags-none : (n rows : ℕ) → 11 ≤ n → Passed n rows → 11 ≡ flags_from 11 0 rows
 unfolding flags_from
 flags-none n rows h p =
     let e : n ≡ 11 = omega arith in
     let last : flags_from 11 0 rows ≡ 11 = rw e at p.1 in
-    e ∙ sym last
+    sym last
 
 -- where there are such flags, the rows are as many as their power of two
 flags_power : (more n rows : ℕ) → flags_from more n rows < n + more → rows ≡ 2 ^ flags_from more n rows
@@ -80,15 +97,3 @@ flags_power (suc more) n rows h =
 
 pub rows_power : (rows : ℕ) → flags_from 11 0 rows ≤ 10 → rows ≡ 2 ^ flags_from 11 0 rows
 rows_power rows h = flags_power 11 0 rows (omega arith)
-
--- no byte before a place ends the line
-abbrev pub Open : List ℕ → ℕ → Type 0
-Open l i = (k : ℕ) → k < i → get_or l k 0 ≡ 10 → ⊥
-
-pub open_more : (l : List ℕ) (i : ℕ) → Open l i → (get_or l i 0 ≡ 10 → ⊥) → Open l (i + 1)
-open_more l i f d k h = elim (ℕ_discrete k i) [ yes e ↦ rw e d | no g ↦ f k (omega arith) ]
-
-pub line_whole : (l : List ℕ) (i : ℕ) → length l ≤ i → i ≤ length l → Open l i → take i l ≡ (read_line l).0
-line_whole l i h g f =
-    let e : i ≡ length l = omega arith in
-    rw (e, take-length l) (line_all l (λ k j. f k (omega arith)))

@@ -3,4 +3,4 @@
 
 mod line;
 
-pub use line::{MOST_ROWS, flags_of, is_enough, line_end, line_refusal, read_rows};
+pub use line::{MOST_ROWS, flags_of, is_enough, line_end, read_rows, test_line};

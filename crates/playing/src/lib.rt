@@ -36,9 +36,7 @@ fn turn(
     let request = request_at(words, at);
     let given = given_at(words, at);
     let reached = step(store, given, request, cells, bytes);
-    let answer = reached.answer;
-    let tally = reached.tally;
-    note(answers, k, answer, tally);
+    note(answers, k, reached.answer);
     reached.store
 }
 
@@ -46,12 +44,7 @@ fn turn(
 fn room_for(words: usize, answers: usize) -> usize
     ensures { result ≡ min (words / call_words) (answers / note_words) }
 {
-    let coded = words / CALL;
-    let noted = answers / NOTE;
-    if coded < noted {
-        return coded;
-    }
-    noted
+    (words / CALL).min(answers / NOTE)
 }
 
 // Make the calls that the words code, one after the other, as long as there is room for their answers: each is given the state, the cells and the bytes as the
@@ -68,10 +61,8 @@ pub fn play(
 {
     let room = room_for(words.len(), answers.len());
     let mut store = first;
-    let mut made = 0usize;
-    while made < room {
-        store = turn(store, made, words, cells, bytes, answers);
-        made += 1;
+    for k in 0..room {
+        store = turn(store, k, words, cells, bytes, answers);
     }
-    Played { store, made }
+    Played { store, made: room }
 }

@@ -1,20 +1,20 @@
 -- What print tests, and the pages written one behind the other.
 -- Assumes nothing.
 use mathlib.Core.Path.{◌≡◌, refl, sym, ap, ◌∙◌}
-use mathlib.Core.List.{List, [], ◌∷◌, ◌++◌, flat_map}
+use mathlib.Core.List.{List, [], ◌∷◌, ◌++◌, map, flat_map}
 use Prim.Native.Nat.{ℕ, zero, suc, ◌+◌, ◌-◌, ◌*◌, ◌/◌, ◌≤◌}
 use native.Mathlib.Omega.{arith}
 use borrow.Author.Tests.{ltb-false}
-use lib.ListN.{length}
+use lib.ListN.{length, drop}
 use Rattle.rule.specs.Bits.{below}
 use Rattle.rule.specs.Refusals.{Row, refusal, result, check_rows}
-use Rattle.rule.specs.Reply.{accepted, refused, reply}
+use Rattle.rule.specs.Reply.{accepted, refused, reply, leaves, WritesRun}
 use Rattle.rule.specs.Sheet.{record_lines, page_bytes, pages_for, ended, sheet, print_rows, Prints}
 use Rattle.theory.proofs.Flat.{flat_append, flat_next}
-use Rattle.theory.proofs.Refused.{passed, split_passed}
+use Rattle.theory.proofs.Refused.{passed, split_passed, refused-reply, refused_kept}
 use Rattle.runs.specs.Run.{Puts}
 use Rattle.runs.proofs.Puts.{puts_then, run_accepted}
-use Rattle.checking.proofs.First.{check_refuses, check_passes}
+use Rattle.checking.proofs.First.{check_passes}
 use Rattle.paging.specs.Page.{Printable}
 use Rattle.paging.proofs.Lines.{checked_printable, sheet_length}
 
@@ -23,6 +23,15 @@ use Rattle.paging.proofs.Lines.{checked_printable, sheet_length}
 pub pages_some : (used : ℕ) → (used ≡ 0 → ⊥) → (used - 1) / record_lines + 1 ≡ pages_for used
 pages_some zero d = absurd (d refl)
 pages_some (suc k) d = omega arith
+
+-- ---- a refused run
+
+pub run_refused : {k j : ℕ} (run values bytes : List ℕ) → k ≡ j → (k ≡ 0 → ⊥) → WritesRun j run values bytes (refused k (map (λ v. 0) values)) bytes
+run_refused {k} run values bytes e d =
+    record {
+      answer = refused-reply k values d ∙ ap (λ (i : ℕ). reply i values) e;
+      bytes_are = refused_kept k (run ++ drop (length run) bytes) bytes d ∙ ap (λ (i : ℕ). leaves i (run ++ drop (length run) bytes) bytes) e;
+    }
 
 -- ---- a page more
 
@@ -40,11 +49,6 @@ module _ (n : ℕ) (o c : List ℕ) (used root : ℕ) (bytes : List ℕ) where
   own : List Row
   own = result (length (sheet c used)) (length bytes) ∷ []
 
-  pub first_refuses : {k : ℕ} (w : List ℕ) → refused k w ≡ reply (refusal (check_rows n o c used root)) (used ∷ [])
-      → k ≡ refusal (print_rows n o c used root bytes)
-  unfolding own
-  first_refuses = check_refuses n o c used root own
-
   pub own_passes : {k : ℕ} (w : List ℕ) → accepted w ≡ reply (refusal (check_rows n o c used root)) (used ∷ [])
       → k ≡ refusal (result (pages_for used * page_bytes) (length bytes) ∷ []) → k ≡ refusal (print_rows n o c used root bytes)
   unfolding own
@@ -54,17 +58,14 @@ module _ (n : ℕ) (o c : List ℕ) (used root : ℕ) (bytes : List ℕ) where
       f ∙ ap (λ (k : ℕ). refusal (result k (length bytes) ∷ [])) (sym long) ∙ more
 
   -- where none applies
-  module _ {k : ℕ} (e : k ≡ refusal (print_rows n o c used root bytes)) (z : k ≡ 0) where
-    passes : refusal (print_rows n o c used root bytes) ≡ 0
-    passes = sym e ∙ z
-
+  module _ (e : 0 ≡ refusal (print_rows n o c used root bytes)) where
     pub printable : Printable c used × (pages_for used * page_bytes ≤ length bytes)
     unfolding own
     printable =
-        let (first, last) = split_passed (check_rows n o c used root) own refl passes in
+        let (first, last) = split_passed (check_rows n o c used root) own refl (sym e) in
         let p = checked_printable n o c used root first in
         (p, omega (arith, sheet_length p, ltb-false (length bytes) (length (sheet c used)) (passed own refl last).0))
 
     pub print_accepted : {pages m : ℕ} {after : List ℕ} → pages ≡ pages_for used → Puts bytes 0 (sheet c used) m after
         → Prints n o c used root bytes (accepted (pages ∷ [])) after
-    print_accepted f p = rw f (run_accepted (pages_for used ∷ []) passes p)
+    print_accepted f p = rw f (run_accepted (pages_for used ∷ []) (sym e) p)

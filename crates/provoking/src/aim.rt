@@ -1,39 +1,40 @@
 // What is tested of a wanted answer and two sets of flags.
 ghost use Rattle.std.specs.Prelude.{◌≡◌, ◌≤◌};
+ghost use Rattle.rule.specs.Answers.{test_number};
 ghost use Rattle.rule.specs.Provoke.{ones_fixed};
 ghost use Rattle.rule.specs.Refusals.{refusal, aim_rows};
+
+use rule::Refusal;
 
 // Whether each flag that is to be 1 is fixed.
 fn ones_fixed(fixed: u16, ones: u16) -> bool
     ensures { result ≡ ones_fixed fixed ones }
 {
-    let mut i: u16 = 0;
-    while i < 10 {
+    for i in 0..10 {
         if bits::bit(fixed, i) < bits::bit(ones, i) {
             return false;
         }
-        i += 1;
     }
     true
 }
 
-// Why they are not taken: 9 for a wanted answer above 1, a bit of a set at or above n, or a 1 outside the fixed set; 0 for none.
-pub fn aim_refusal(n: u8, wanted: u16, fixed: u16, ones: u16) -> u8
+// The tests of them: 9 for a wanted answer above 1, a bit of a set at or above n, or a 1 outside the fixed set.
+pub fn test_aim(n: u8, wanted: u16, fixed: u16, ones: u16) -> Result<(), Refusal>
     requires { n ≤ 10 }
-    ensures { result ≡ refusal (aim_rows n wanted fixed ones) }
+    ensures { test_number result ≡ refusal (aim_rows n wanted fixed ones) }
 {
     let rows = arguments::row_count(n);
     if 1 < wanted {
-        return 9;
+        return Err(Refusal::Argument);
     }
     if rows <= fixed as usize {
-        return 9;
+        return Err(Refusal::Argument);
     }
     if rows <= ones as usize {
-        return 9;
+        return Err(Refusal::Argument);
     }
-    if ones_fixed(fixed, ones) {
-        return 0;
+    if !ones_fixed(fixed, ones) {
+        return Err(Refusal::Argument);
     }
-    9
+    Ok(())
 }

@@ -5,26 +5,21 @@ use apply::branch;
 use rule::Order;
 
 // Stands for no row: above every row of ten flags.
+// kept: as a number above all rows it lets one `<` compare what two halves of the rows hold; an Option would be taken apart at each.
 pub const NO_ROW: u16 = 1024;
 
 // Whether the rule's node is an end node that never gives the wanted answer.
 fn never_wanted(wanted: u16, rule: u16) -> bool
     ensures { result ≡ (ltb rule 2 && not (eqb rule wanted)) }
 {
-    if rule < 2 {
-        return rule != wanted;
-    }
-    false
+    rule < 2 && rule != wanted
 }
 
 // Whether both nodes are end nodes.
 fn both_ends(rule: u16, pass: u16) -> bool
     ensures { result ≡ (ltb rule 2 && ltb pass 2) }
 {
-    if rule < 2 {
-        return pass < 2;
-    }
-    false
+    rule < 2 && pass < 2
 }
 
 // The lowest row that the pass rule's node allows, that has this row's values of the fixed flags and for which the rule's node gives the wanted answer. This row

@@ -1,24 +1,34 @@
 -- Reach from a root by the marks of children, in cells whose children are smaller.
 -- Assumes nothing.
-use mathlib.Core.Path.{◌≡◌, sym}
+use mathlib.Core.Path.{◌≡◌, refl, sym}
 use mathlib.Core.Logic.{inl, inr}
-use mathlib.Core.Bool.{true, false, false≢true}
-use mathlib.Core.List.{List}
-use Prim.Native.Nat.{ℕ, ◌+◌, ◌-◌, ◌≤◌, ◌<◌}
+use mathlib.Core.Bool.{Bool, true, false, false≢true}
+use mathlib.Core.List.{List, [], ◌∷◌}
+use Prim.Native.Nat.{ℕ, zero, suc, ◌+◌, ◌-◌, ◌≤◌, ◌<◌}
 use native.Mathlib.Omega.{arith}
-use borrow.Author.Tests.{eqb-true, eq-eqb}
-use lib.Dec.{eqb}
-use lib.ListN.{get_or}
-use Rattle.rule.specs.Bits.{below}
-use Rattle.rule.specs.Tests.{each}
+use lib.ListN.{length, get_or, take}
+use Rattle.std.specs.List.{list_all}
 use Rattle.rule.specs.Cells.{most_records}
 use Rattle.rule.specs.Sound.{children_smaller}
 use Rattle.rule.specs.Diagram.{all_reached}
-use Rattle.theory.proofs.Tests.{same_bool, each_below, below_each}
+use Rattle.theory.proofs.Tests.{same_bool, below_each, and_split}
 use Rattle.theory.proofs.Shape.{children_smaller_lem}
 use Rattle.theory.specs.Shape.{Smaller}
 use Rattle.theory.proofs.Reach.{root_last, reached_parents, reached_by_parents}
 use Rattle.reach.specs.Mark.{Marked}
+
+-- ---- the first n marks
+
+all_at : (l : List Bool) (n : ℕ) → list_all (λ marked. marked) (take n l) ≡ true → (k : ℕ) → k < n → k < length l → get_or l k false ≡ true
+all_at l zero e k h g = absurd (omega arith)
+all_at [] (suc n) e k h g = absurd (omega arith)
+all_at (x ∷ l) (suc n) e zero h g = (and_split _ _ e).0
+all_at (x ∷ l) (suc n) e (suc k) h g = all_at l n (and_split x _ e).1 k (omega arith) (omega arith)
+
+at_all : (l : List Bool) (n : ℕ) → ((k : ℕ) → k < n → get_or l k false ≡ true) → list_all (λ marked. marked) (take n l) ≡ true
+at_all l zero f = refl
+at_all [] (suc n) f = refl
+at_all (x ∷ l) (suc n) f = rw (f 0 (omega arith)) (at_all l n (λ k h. f (suc k) (omega arith)))
 
 -- ---- all records reached
 
@@ -37,15 +47,15 @@ module _ (c : List ℕ) (used : ℕ) (small : children_smaller c used ≡ true) 
     reached_short g h = same_bool _ _ (λ e. absurd (false≢true e)) (λ e. let q = root_last smaller root (omega arith) g e in absurd (omega arith))
 
     -- from the last record, all are reached where each other is marked for a child
-    pub reached_last : {marks : List ℕ} → Marked c used marks → used ≤ most_records → 0 < used → root ≡ used + 1
-        → each (λ k. eqb (get_or marks k 0) 1) (below (used - 1)) ≡ all_reached c used root
+    pub reached_last : {marks : List Bool} → Marked c used marks → used ≤ most_records → 0 < used → root ≡ used + 1
+        → list_all (λ marked. marked) (take (used - 1) marks) ≡ all_reached c used root
     reached_last {marks} m few g e =
         same_bool _ _
         (λ f.
         reached_by_parents smaller root e (λ k h.
-        let (j, l, p) = ((m.is k).0 (eqb-true _ _ (each_below _ (used - 1) f k (omega arith)))).1 in
+        let (j, l, p) = ((m.is k).0 (all_at marks (used - 1) f k (omega arith) (omega (arith, m.lent)))).1 in
         (j, elim p [ inl q ↦ omega (arith, smaller.low j l) | inr q ↦ omega (arith, smaller.high j l) ], l, p)))
         (λ f.
-        below_each _ (used - 1) (λ k h.
+        at_all marks (used - 1) (λ k h.
         let (j, _, l, p) = reached_parents smaller root (omega arith) f k (omega arith) in
-        eq-eqb _ _ ((m.is k).1 (omega arith, (j, l, p)))))
+        (m.is k).1 (omega arith, (j, l, p))))

@@ -18,7 +18,7 @@ use Rattle.cells.specs.Record.{put_record}
 use Rattle.cells.proofs.Record.{put_else}
 use Rattle.theory.proofs.Walks.{flag_kept, low_kept, high_kept}
 use Rattle.record_index.specs.Index.{heads, links, hash, hash_at, last_with, empty_index, Indexed}
-use Rattle.record_index.specs.Find.{Is, Finds}
+use Rattle.record_index.specs.Find.{Is}
 
 -- ---- the last record with a hash
 
@@ -169,7 +169,3 @@ module _ {c : List ℕ} {used flag low high : ℕ} where
       searched k next (omega (arith, s.within))
       (λ j l g i. ⊎_elim (λ (q : k ≡ j). d (rw q i)) (λ (q : k < j). s.above j (omega arith) g i) (eq-or-lt_of_le l))
       (e ∙ ap (λ (x : ℕ). last_with c x k) (s.hits k h))
-
-  pub searched_none : (at : ℕ) → Searched c used flag low high at → at ≤ 0 → Finds c used flag low high used
-  searched_none at s h =
-      record { most = omega arith; there = λ l. absurd (omega arith); none = λ e k l. s.above k (omega arith) l }

@@ -1,6 +1,6 @@
 -- What a search for a record finds.
 -- Assumes nothing.
-use Rattle.std.specs.Prelude.{◌≡◌, List, ℕ, ◌≤◌, ◌<◌}
+use Rattle.std.specs.Prelude.{◌≡◌, List, ℕ, ◌<◌, Option, Some, None as Nothing}
 use Rattle.rule.specs.Cells.{flag_at, low_at, high_at}
 
 -- record k has this flag and these children
@@ -13,8 +13,7 @@ pub record Is (c : List ℕ) (k flag low high : ℕ) : Type 0 where
 abbrev pub None : List ℕ → ℕ → ℕ → ℕ → ℕ → Type 0
 None c n flag low high = (k : ℕ) → k < n → Is c k flag low high → ⊥
 
--- r is a used record that has them, or `used` where none is. (In sound cells there is one at most.)
-pub record Finds (c : List ℕ) (used flag low high r : ℕ) : Type 0 where
-  pub most : r ≤ used
-  pub there : r < used → Is c r flag low high
-  pub none : r ≡ used → None c used flag low high
+-- what is found is a used record that has them, or nothing where none is. (In sound cells there is one at most.)
+abbrev pub Finds : List ℕ → ℕ → ℕ → ℕ → ℕ → Option ℕ → Type 0
+Finds c used flag low high (Some k) = (k < used) × Is c k flag low high
+Finds c used flag low high Nothing = None c used flag low high

@@ -26,24 +26,30 @@ fn hash(flag: u16, low: u16, high: u16) -> usize
     (flag as usize * FLAG_FACTOR + low as usize + high as usize * HIGH_FACTOR) % HEADS
 }
 
-// A used record that has this flag and these children, or the number of them where none has.
-pub fn find(cells: &[u16], index: &[u16; INDEX], used: u16, flag: u16, low: u16, high: u16) -> u16
+// A used record that has this flag and these children, or None where none has.
+pub fn find(
+    cells: &[u16],
+    index: &[u16; INDEX],
+    used: u16,
+    flag: u16,
+    low: u16,
+    high: u16,
+) -> Option<u16>
     requires { (used ≤ room cells.now) × (room cells.now ≤ links) × Indexed cells.now used index.now }
     ensures { Finds cells.now used flag low high result }
 {
     let mut at = index[hash(flag, low, high)];
     while 0 < at {
         let k = at - 1;
-        if cells::flag_at(cells, k) == flag {
-            if cells::low_at(cells, k) == low {
-                if cells::high_at(cells, k) == high {
-                    return k;
-                }
-            }
+        if cells::flag_at(cells, k) == flag
+            && cells::low_at(cells, k) == low
+            && cells::high_at(cells, k) == high
+        {
+            return Some(k);
         }
         at = index[HEADS + k as usize];
     }
-    used
+    None
 }
 
 // Enters record k, behind those that are entered.

@@ -28,9 +28,6 @@ module _ {rows : List Row} (more : List Row) {c : List ℕ} {used k : ℕ} {inde
   pub then_refused : (k ≡ 0 → ⊥) → Tested (rows ++ more) c used k index
   then_refused d = record { number = still_refused rows more t.number d; indexed = t.indexed }
 
-  pub then_given : numbered rows ≡ true → k ≡ 0 → {j : ℕ} → j ≡ refusal more → Tested (rows ++ more) c used j index
-  then_given h z f = record { number = passed_on rows more t.number h z f; indexed = λ _. t.indexed z }
-
 -- ---- a node that is named again
 
 again : (b : Bool) (k : ℕ) → first_else b 7 (first_else b 7 k) ≡ first_else b 7 k
@@ -68,7 +65,7 @@ module _ (n : ℕ) (o c : List ℕ) (used : ℕ) where
 
   module _ (x : Making) {k : ℕ} {index : List ℕ} (t : Tested (tested_rows n o c used x) c used k index) (z : k ≡ 0) where
     pub taken : Taken n o c used
-    taken = rows_passed n o c used refl (split_passed (cell_rows n o c used) (own_rows n used x) refl (sym t.number ∙ z)).0
+    taken = rows_passed n o c used (sym (split_passed (cell_rows n o c used) (own_rows n used x) refl (sym t.number ∙ z)).0)
 
     pub own_pass : refusal (own_rows n used x) ≡ 0
     own_pass = (split_passed (cell_rows n o c used) (own_rows n used x) refl (sym t.number ∙ z)).1

@@ -1,6 +1,5 @@
 ghost use Rattle.std.specs.Prelude.{◌≡◌, not, ltb};
 
-use operators::Digit;
 use rule::Node;
 
 // Whether a code is an operator's: the one match over the codes refuses the others.
@@ -8,9 +7,5 @@ pub fn is_operator(code: u8) -> bool
     ensures { result ≡ not (ltb 15 code) }
 {
     let no = Node::NO.number;
-    let digit = operators::operate(code, no, no);
-    match digit {
-        Digit::Node(_) => true,
-        Digit::Refused => false,
-    }
+    operators::operate(code, no, no).is_ok()
 }

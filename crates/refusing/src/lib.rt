@@ -1,4 +1,4 @@
-// What the store's calls test of what they are given (document 01, "Refused, by where it is found"): the number of the first row that applies, 0 for none.
+// What the store's calls test of what they are given (document 01, "Refused, by where it is found"): the first row that applies is answered.
 #![tactic(auto)]
 
 mod code;
@@ -6,6 +6,6 @@ mod making;
 mod nodes;
 mod plain;
 
-pub use making::{fix_refusal, flag_refusal, join_refusal};
-pub use nodes::nodes_refusal;
-pub use plain::{constant_refusal, open_refusal};
+pub use making::{test_fix, test_flag, test_join};
+pub use nodes::test_nodes;
+pub use plain::{test_constant, test_open};

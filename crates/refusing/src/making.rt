@@ -1,37 +1,35 @@
-// The tests of flag, join and fix, all but 10. (Choose has those of three nodes.) Where there is none, the used records are entered in the index.
+// The tests of flag, join and fix, all but 10. (Choose has those of three nodes.) Where all pass, the used records are entered in the index.
 ghost use Rattle.std.specs.Prelude.{◌≡◌};
 ghost use Rattle.rule.specs.Results.{flag, join, fix};
+ghost use Rattle.rule.specs.Answers.{test_number};
 ghost use Rattle.record_index.specs.Index.{empty_index};
 ghost use Rattle.refusing.specs.Tested.{tested_rows, Tested};
 
 use crate::code::is_operator;
-use crate::nodes::nodes_refusal;
-use rule::Order;
+use crate::nodes::test_nodes;
+use rule::{Order, Refusal};
 
 // Flag's: 1, 4, 5, 6, then 9.
-pub fn flag_refusal(
+pub fn test_flag(
     n: u8,
     order: Order,
     cells: &[u16],
     used: u16,
     i: u16,
     index: &mut [u16; record_index::INDEX],
-) -> u8
+) -> Result<(), Refusal>
     requires { index.old ≡ empty_index }
-    ensures { Tested (tested_rows n order.places cells.now used (flag i)) cells.now used result index.new }
+    ensures { Tested (tested_rows n order.places cells.now used (flag i)) cells.now used (test_number result) index.new }
 {
-    let refused = checking::records_refusal(n, order, cells, used, index);
-    if refused != 0 {
-        return refused;
-    }
+    checking::test_records(n, order, cells, used, index)?;
     if n as u16 <= i {
-        return 9;
+        return Err(Refusal::Argument);
     }
-    0
+    Ok(())
 }
 
 // Join's: 1, 4, 5, 6, 7, then 9.
-pub fn join_refusal(
+pub fn test_join(
     n: u8,
     order: Order,
     cells: &[u16],
@@ -40,22 +38,19 @@ pub fn join_refusal(
     f: u16,
     g: u16,
     index: &mut [u16; record_index::INDEX],
-) -> u8
+) -> Result<(), Refusal>
     requires { index.old ≡ empty_index }
-    ensures { Tested (tested_rows n order.places cells.now used (join code f g)) cells.now used result index.new }
+    ensures { Tested (tested_rows n order.places cells.now used (join code f g)) cells.now used (test_number result) index.new }
 {
-    let refused = nodes_refusal(n, order, cells, used, f, g, g, index);
-    if refused != 0 {
-        return refused;
-    }
+    test_nodes(n, order, cells, used, f, g, g, index)?;
     if !is_operator(code) {
-        return 9;
+        return Err(Refusal::Argument);
     }
-    0
+    Ok(())
 }
 
 // Fix's: 1, 4, 5, 6, 7, then 9.
-pub fn fix_refusal(
+pub fn test_fix(
     n: u8,
     order: Order,
     cells: &[u16],
@@ -64,19 +59,16 @@ pub fn fix_refusal(
     i: u16,
     value: u16,
     index: &mut [u16; record_index::INDEX],
-) -> u8
+) -> Result<(), Refusal>
     requires { index.old ≡ empty_index }
-    ensures { Tested (tested_rows n order.places cells.now used (fix m i value)) cells.now used result index.new }
+    ensures { Tested (tested_rows n order.places cells.now used (fix m i value)) cells.now used (test_number result) index.new }
 {
-    let refused = nodes_refusal(n, order, cells, used, m, m, m, index);
-    if refused != 0 {
-        return refused;
-    }
+    test_nodes(n, order, cells, used, m, m, m, index)?;
     if n as u16 <= i {
-        return 9;
+        return Err(Refusal::Argument);
     }
     if 1 < value {
-        return 9;
+        return Err(Refusal::Argument);
     }
-    0
+    Ok(())
 }

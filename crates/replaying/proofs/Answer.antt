@@ -16,7 +16,7 @@ use Rattle.rule.specs.Walk.{walk, flags_asked, table_of}
 use Rattle.rule.specs.Log.{snapshots, Played, played, played_in, yes_answers, changes, times_asked, tally_numbers, tally_of}
 use Rattle.rule.specs.Results.{replaying, answered}
 use Rattle.rule.specs.Refusals.{refusal, node, most_log, log_length, row_rows, log_rows, replay_rows}
-use Rattle.rule.specs.Reply.{Reply, accepted, refused, reply}
+use Rattle.rule.specs.Reply.{accepted, refused, reply}
 use Rattle.rule.specs.Calls.{Replays}
 use Rattle.theory.proofs.Member.{In, not-nil, cases_cons}
 use Rattle.theory.proofs.Bits.{bit_lt}
@@ -85,11 +85,10 @@ module _ (n : ℕ) (o c : List ℕ) (used m : ℕ) (pass : Option ℕ) (log : Li
   values = answered n c (replaying m pass) log
 
   -- refused under a number
-  refused_by : {k : ℕ} {r : Reply} → k ≡ refusal (replay_rows n o c used m pass log) → k ≢ 0 → r ≡ refused k (replicate tally_numbers 0)
-      → Replays n o c used m pass log r
-  refused_by {k} e d f =
+  refused_by : {k : ℕ} → k ≡ refusal (replay_rows n o c used m pass log) → k ≢ 0 → Replays n o c used m pass log (refused k (replicate tally_numbers 0))
+  refused_by {k} e d =
       record {
-        answer = f ∙ ap (refused k) (sym (zero_tally n (played_in n c m (snapshots log)))) ∙ refused-reply k values d ∙ ap (λ (i : ℕ). reply i values) e;
+        answer = ap (refused k) (sym (zero_tally n (played_in n c m (snapshots log)))) ∙ refused-reply k values d ∙ ap (λ (i : ℕ). reply i values) e;
         bytes_are = refl;
       }
 
@@ -98,22 +97,24 @@ module _ (n : ℕ) (o c : List ℕ) (used m : ℕ) (pass : Option ℕ) (log : Li
   by_node none = replay_yes n used m o c log
   by_node (some p) = refl
 
-  module _ {k p : ℕ} {index : List ℕ} (e : p ≡ pass_node pass) (tests : Tested (node_rows n o c used (m ∷ p ∷ p ∷ [])) c used k index) where
+  module _ {p : ℕ} (e : p ≡ pass_node pass) where
     own : refusal (replay_rows n o c used m (some p) log) ≡ refusal (replay_rows n o c used m pass log)
     own = ap (λ (i : ℕ). refusal (replay_rows n o c used m (some i) log)) e ∙ by_node pass
 
-    number : k ≡ refusal (node_rows n o c used (m ∷ p ∷ []))
-    number = (two_nodes n o c used m p tests).number
+    pub nodes_refused : {k : ℕ} {index : List ℕ} → Tested (node_rows n o c used (m ∷ p ∷ p ∷ [])) c used k index → k ≢ 0
+        → Replays n o c used m pass log (refused k (replicate tally_numbers 0))
+    nodes_refused tests d =
+        refused_by (still_refused (node_rows n o c used (m ∷ p ∷ [])) (log_rows n c (some p) log) (two_nodes n o c used m p tests).number d ∙ own) d
 
-    pub nodes_refused : k ≢ 0 → {r : Reply} → r ≡ refused k (replicate tally_numbers 0) → Replays n o c used m pass log r
-    nodes_refused d = refused_by (still_refused (node_rows n o c used (m ∷ p ∷ [])) (log_rows n c (some p) log) number d ∙ own) d
+    module _ {index : List ℕ} (tests : Tested (node_rows n o c used (m ∷ p ∷ p ∷ [])) c used 0 index) where
+      number : 0 ≡ refusal (node_rows n o c used (m ∷ p ∷ []))
+      number = (two_nodes n o c used m p tests).number
 
-    module _ (z : k ≡ 0) where
       apart : (refusal (cell_rows n o c used) ≡ 0) × (refusal (node used m ∷ node used p ∷ []) ≡ 0)
-      apart = split_passed (cell_rows n o c used) (node used m ∷ node used p ∷ []) refl (sym number ∙ z)
+      apart = split_passed (cell_rows n o c used) (node used m ∷ node used p ∷ []) refl (sym number)
 
       pub taken : Taken n o c used
-      taken = rows_passed n o c used refl apart.0
+      taken = rows_passed n o c used (sym apart.0)
 
       nodes_there : (m ≤ used + 1) × (p ≤ used + 1)
       nodes_there =
@@ -121,30 +122,30 @@ module _ (n : ℕ) (o c : List ℕ) (used m : ℕ) (pass : Option ℕ) (log : Li
           (ltb-false (used + 1) m a, ltb-false (used + 1) p b)
 
       pub rule_walks : Walkable c used m
-      rule_walks = walkable taken nodes_there.0
+      rule_walks = walkable n o c used (sym apart.0) nodes_there.0
 
       pub pass_walks : Walkable c used p
-      pass_walks = walkable taken nodes_there.1
+      pass_walks = walkable n o c used (sym apart.0) nodes_there.1
 
       module _ {j : ℕ} (f : j ≡ refusal (log_rows n c (some p) log)) where
         given : j ≡ refusal (replay_rows n o c used m pass log)
-        given = passed_on (node_rows n o c used (m ∷ p ∷ [])) (log_rows n c (some p) log) number refl z f ∙ own
+        given = passed_on (node_rows n o c used (m ∷ p ∷ [])) (log_rows n c (some p) log) number refl refl f ∙ own
 
-        pub log_refused : j ≢ 0 → {r : Reply} → r ≡ refused j (replicate tally_numbers 0) → Replays n o c used m pass log r
+        pub log_refused : j ≢ 0 → Replays n o c used m pass log (refused j (replicate tally_numbers 0))
         log_refused d = refused_by given d
 
-        module _ (y : j ≡ 0) where
-          tests_passed : ((log_length log).0 ≡ false) × (refusal (flat_map (row_rows n c (some p)) (snapshots log)) ≡ 0)
-          tests_passed = row_passed (log_length log).0 15 (flat_map (row_rows n c (some p)) (snapshots log)) (sym f ∙ y)
+      module _ (f : 0 ≡ refusal (log_rows n c (some p) log)) where
+        tests_passed : ((log_length log).0 ≡ false) × (refusal (flat_map (row_rows n c (some p)) (snapshots log)) ≡ 0)
+        tests_passed = row_passed (log_length log).0 15 (flat_map (row_rows n c (some p)) (snapshots log)) (sym f)
 
-          pub short : length log ≤ most_log
-          short = ltb-false most_log (length log) (or_second (eqb (length log % 2) 1) (ltb most_log (length log)) tests_passed.0)
+        pub short : length log ≤ most_log
+        short = ltb-false most_log (length log) (or_second (eqb (length log % 2) 1) (ltb most_log (length log)) tests_passed.0)
 
-          pub log_tallied : {t : Tally} → t ≡ tally_for (played (walk c m) (flags_asked c m) (snapshots log)) → Replays n o c used m pass log (accepted (tally_values t))
-          log_tallied g =
-              record {
-                answer = ap (λ (t : Tally). accepted (tally_values t)) g
-                    ∙ ap accepted (tally_is taken m nodes_there.0 (snapshots log) (rows_below n c (some p) (snapshots log) tests_passed.1))
-                    ∙ ap (λ (i : ℕ). reply i values) (sym y ∙ given);
-                bytes_are = refl;
-              }
+        pub log_tallied : {t : Tally} → t ≡ tally_for (played (walk c m) (flags_asked c m) (snapshots log)) → Replays n o c used m pass log (accepted (tally_values t))
+        log_tallied g =
+            record {
+              answer = ap (λ (t : Tally). accepted (tally_values t)) g
+                  ∙ ap accepted (tally_is taken m nodes_there.0 (snapshots log) (rows_below n c (some p) (snapshots log) tests_passed.1))
+                  ∙ ap (λ (i : ℕ). reply i values) (given f);
+              bytes_are = refl;
+            }

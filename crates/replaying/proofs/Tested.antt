@@ -4,22 +4,18 @@ use mathlib.Core.Path.{◌≡◌, refl, sym, ap, ◌∙◌}
 use mathlib.Core.Logic.{◌≢◌}
 use mathlib.Core.List.{List, ◌++◌, flat_map}
 use mathlib.Core.Option.{some}
-use Prim.Native.Nat.{ℕ, suc, ◌+◌, ◌*◌, ◌/◌, ◌%◌, ◌≤◌, ◌<◌}
+use Prim.Native.Nat.{ℕ, suc, ◌+◌, ◌*◌, ◌/◌, ◌≤◌, ◌<◌}
 use native.Mathlib.Omega.{arith}
 use native.Mathlib.Numerals.{add-one}
-use borrow.Author.Tests.{lt-ltb, le-ltb, eq-eqb, ne_eqb}
 use lib.ListN.{length, get_or, drop, drop_of_length-le}
 use lib.Seq.{drop-cons}
 use Rattle.rule.specs.Log.{snapshots}
 use Rattle.rule.specs.Files.{two_at}
-use Rattle.rule.specs.Refusals.{Row, refusal, most_log, row_rows, log_rows}
+use Rattle.rule.specs.Refusals.{Row, refusal, row_rows, log_rows}
 use Rattle.theory.proofs.Refused.{refused-more, passed_more}
 use Rattle.theory.proofs.Log.{snapshots-length, snapshot_at}
 
 -- ---- the log's bytes
-
-pub in_log : (log : List ℕ) (i : ℕ) → i < length log / 2 → i * 2 + 1 < length log
-in_log log i h = omega arith
 
 -- the row of snapshot i
 pub row_at : (log : List ℕ) (i : ℕ) {row : ℕ} → i < length log / 2 → row ≡ two_at log (i * 2) → row ≡ get_or (snapshots log) i 0
@@ -32,19 +28,6 @@ module _ (n : ℕ) (c : List ℕ) (pass : ℕ) (log : List ℕ) where
   -- none of the tests of the snapshots before i applies: the number is that of the others
   abbrev pub Tested : ℕ → Type 0
   Tested i = refusal (rows_from i) ≡ refusal (log_rows n c (some pass) log)
-
-  -- ---- 16
-
-  pub odd_refused : length log % 2 ≡ 1 → 16 ≡ refusal (log_rows n c (some pass) log)
-  odd_refused h = rw (eq-eqb (length log % 2) 1 h)
-
-  pub long_refused : length log % 2 ≢ 1 → most_log < length log → 16 ≡ refusal (log_rows n c (some pass) log)
-  long_refused h g = rw (ne_eqb (length log % 2) 1 h, lt-ltb most_log (length log) g)
-
-  -- ---- 9 and 14
-
-  pub none_tested : length log % 2 ≢ 1 → length log ≤ most_log → Tested 0
-  none_tested h g = rw (ne_eqb (length log % 2) 1 h, le-ltb most_log (length log) g)
 
   module _ (i : ℕ) (l : i < length log / 2) {row k : ℕ} (r : row ≡ get_or (snapshots log) i 0) (e : k ≡ refusal (row_rows n c (some pass) row)) (t : Tested i) where
     -- the tests from i on are those of snapshot i, and the others

@@ -1,6 +1,7 @@
 // A log's snapshots, two bytes each, one after the other.
 ghost use Rattle.std.specs.Prelude.{◌≡◌, ◌≤◌, length};
 ghost use Rattle.std.proofs.Math.Option.{some};
+ghost use Rattle.rule.specs.Answers.{test_number};
 ghost use Rattle.rule.specs.Log.{snapshots, played};
 ghost use Rattle.rule.specs.Refusals.{refusal, most_log, log_rows};
 ghost use Rattle.rule.specs.Walk.{walk, flags_asked};
@@ -8,34 +9,29 @@ ghost use Rattle.walking.specs.Walk.{Walkable};
 ghost use Rattle.tallying.specs.Tally.{tally_for};
 
 use cursor::two_at;
+use rule::Refusal;
 use tallying::{Tally, ticked};
-use walking::{descend, row_refusal};
+use walking::{descend, test_row};
 
 // The bytes of the longest log: 32,767 snapshots.
 pub const MOST_LOG: usize = 65534;
 
-// Why a log is not played: 16, then for each snapshot 9 and 14; 0 for none.
-pub fn log_refusal(n: u8, cells: &[u16], used: u16, pass: u16, log: &[u8]) -> u8
+// The tests of a log that is to be played: 16, then for each snapshot 9 and 14.
+pub fn test_log(n: u8, cells: &[u16], used: u16, pass: u16, log: &[u8]) -> Result<(), Refusal>
     requires { (n ≤ 10) × Walkable cells.now used pass }
-    ensures { result ≡ refusal (log_rows n cells.now (some pass) log.now) }
+    ensures { test_number result ≡ refusal (log_rows n cells.now (some pass) log.now) }
 {
     if log.len() % 2 == 1 {
-        return 16;
+        return Err(Refusal::LogLength);
     }
     if MOST_LOG < log.len() {
-        return 16;
+        return Err(Refusal::LogLength);
     }
-    let count = log.len() / 2;
-    let mut i = 0;
-    while i < count {
+    for i in 0..log.len() / 2 {
         let row = two_at(log, i * 2);
-        let refused = row_refusal(n, cells, used, pass, row);
-        if refused != 0 {
-            return refused;
-        }
-        i += 1;
+        test_row(n, cells, used, pass, row)?;
     }
-    0
+    Ok(())
 }
 
 // The tally of a log's snapshots.
@@ -46,14 +42,12 @@ pub fn tally_of(cells: &[u16], used: u16, node: u16, log: &[u8]) -> Tally
     let snapshots = log.len() / 2;
     let mut tally = Tally::ZEROS;
     let mut last = 0u8;
-    let mut i = 0;
-    while i < snapshots {
+    for i in 0..snapshots {
         let row = two_at(log, i * 2);
         let descent = descend(cells, used, node, row);
         let answer = descent.end as u8;
         tally = ticked(tally, last, answer, descent.asked);
         last = answer;
-        i += 1;
     }
     tally
 }

@@ -9,12 +9,10 @@ pub fn asking(cells: &[u16], used: u16, v: u16) -> u16
     ensures { result ≡ asking cells.now used v }
 {
     let mut count: u16 = 0;
-    let mut k: u16 = 0;
-    while k < used {
+    for k in 0..used {
         if cells::flag_at(cells, k) == v {
             count += 1;
         }
-        k += 1;
     }
     count
 }
@@ -24,13 +22,5 @@ pub fn yes_count(table: &[u8]) -> u16
     requires { length table.now < 65536 }
     ensures { result ≡ yes_count table.now }
 {
-    let mut count: u16 = 0;
-    let mut r = 0;
-    while r < table.len() {
-        if table[r] == 1 {
-            count += 1;
-        }
-        r += 1;
-    }
-    count
+    table.iter().filter(|row| **row == 1).count() as u16
 }

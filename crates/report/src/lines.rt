@@ -28,12 +28,9 @@ fn put_places(out: &mut [u8], at: usize, n: u8, order: Order) -> usize
     requires { (n ≤ 10) × (at + n * 6 ≤ length out.old) }
     ensures { Puts out.old at (numbers (flags n order.places)) result out.new × (result ≤ at + n * 6) }
 {
-    let places = order.places;
     let mut next = at;
-    let mut i: u8 = 0;
-    while i < n {
-        next = put_number(out, next, places[i as usize] as u16);
-        i += 1;
+    for flag in &order.places[..n as usize] {
+        next = put_number(out, next, *flag as u16);
     }
     next
 }
@@ -65,11 +62,8 @@ fn put_flags(out: &mut [u8], at: usize, n: u8, cells: &[u16], used: u16) -> usiz
     ensures { Puts out.old at (flag_lines (asking cells.now used) (below n)) result out.new × (result ≤ at + n * 17) }
 {
     let mut next = at;
-    let mut v: u8 = 0;
-    while v < n {
-        let flag = v as u16;
-        next = put_flag(out, next, flag, asking(cells, used, flag));
-        v += 1;
+    for v in 0..n as u16 {
+        next = put_flag(out, next, v, asking(cells, used, v));
     }
     next
 }

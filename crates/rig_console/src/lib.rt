@@ -4,20 +4,10 @@
 ghost use Rattle.std.specs.Prelude.{◌≡◌, false, ◌≤◌, length, take};
 ghost use Rattle.rig_console.specs.Final.{Final};
 
-// Standard input, by its number.
-const STDIN_FILENO: i32 = 0;
-// Standard output, by its number.
-const STDOUT_FILENO: i32 = 1;
+use console::{Input, STDIN_FILENO, STDOUT_FILENO};
 
 // As many bytes as count at most: a table's rows and the line end, and one more than the longest log.
 const ENOUGH: usize = (parsing::MOST_ROWS + 1) + (replaying::MOST_LOG + 1);
-
-// What was read of standard input: so many bytes, and whether it ended with them.
-#[derive(Clone, Copy)]
-struct Input {
-    size: usize,
-    ended: bool,
-}
 
 // The bytes of standard input up to its end, or as many as count.
 fn read(input: &mut [u8; ENOUGH]) -> Input

@@ -11,13 +11,13 @@ use Rattle.rule.specs.RigTally.{printed_tally, rig_tally}
 use Rattle.demands.proofs.RigLog.{rig_log}
 use Rattle.rig_tally.specs.Plays.{Plays}
 
-module _ (input : List ℕ) {k : ℕ} (e : k ≡ refusal (line_rows (read_line input).0)) where
-  pub refused_printed : (k ≡ 0 → ⊥) → word_line "refused" k ≡ rig_tally input
-  refused_printed d = ap (word_line "refused") e ∙ sym (rig_log.unprinted input (λ z. d (e ∙ z)))
+module _ (input : List ℕ) where
+  pub refused_printed : {k : ℕ} → k ≡ refusal (line_rows (read_line input).0) → (k ≡ 0 → ⊥) → word_line "refused" k ≡ rig_tally input
+  refused_printed e d = ap (word_line "refused") e ∙ sym (rig_log.unprinted input (λ z. d (e ∙ z)))
 
-  pub played_printed : {n : ℕ} {t log : List ℕ} {r : Reply} → k ≡ 0 → n ≡ flags_of (read_line input).0 → t ≡ rows_of (read_line input).0
-      → log ≡ (read_line input).1 → Plays n t log r → printed_tally n r ≡ rig_tally input
-  played_printed {r = r} z p q s x =
+  pub played_printed : 0 ≡ refusal (line_rows (read_line input).0) → {n : ℕ} {t log : List ℕ} {r : Reply} → n ≡ flags_of (read_line input).0
+      → t ≡ rows_of (read_line input).0 → log ≡ (read_line input).1 → Plays n t log r → printed_tally n r ≡ rig_tally input
+  played_printed e {r = r} p q s x =
       let y : Plays (flags_of (read_line input).0) (rows_of (read_line input).0) (read_line input).1 r = rw (← p, ← q, ← s) x in
       ap (λ (m : ℕ). printed_tally m r) p
-      ∙ sym (rig_log.printed input y.cells y.used y.root r (sym e ∙ z) y.lent y.drawn y.replays)
+      ∙ sym (rig_log.printed input y.cells y.used y.root r (sym e) y.lent y.drawn y.replays)

@@ -2,31 +2,29 @@
 -- Assumes nothing.
 use mathlib.Core.Path.{◌≡◌, refl, sym, ap, ◌∙◌}
 use mathlib.Core.Bool.{true}
-use mathlib.Core.List.{List, ◌++◌}
+use mathlib.Core.List.{List}
 use Prim.Native.Nat.{ℕ, ◌-◌, ◌^◌, ◌≤◌}
 use native.Mathlib.Nat.{sub-zero}
 use native.Mathlib.Omega.{arith}
 use borrow.Author.Tests.{ltb-false, not-false}
-use lib.ListN.{length, take, drop, replicate}
-use lib.Seq.{length-take-le}
+use lib.ListN.{length, take}
 use Rattle.rule.specs.Tests.{each}
 use Rattle.rule.specs.Table.{fit_rows}
 use Rattle.rule.specs.Refusals.{refusal}
 use Rattle.rule.specs.Text.{read_line}
-use Rattle.rule.specs.Listing.{most_rows, is_digit, flags_from, flags_of, rows_of, line_rows}
+use Rattle.rule.specs.Listing.{most_rows, is_digit, flags_of, rows_of, line_rows}
 use Rattle.theory.proofs.Refused.{passed}
 use Rattle.parsing.proofs.FirstLine.{rows_power}
-use Rattle.parsing.proofs.Characters.{rows_fit, rows_length, held_front, read_front, read_room}
+use Rattle.parsing.proofs.Characters.{rows_fit, rows_length}
 
 pub record Taken (input : List ℕ) (end : ℕ) : Type 0 where
-  pub within : end ≤ length input
   pub up_to : take end input ≡ (read_line input).0
   pub passes : refusal (line_rows (take (end - 0) input)) ≡ 0
 
 -- a line that was found and passed its tests
-pub line_taken : (input : List ℕ) (end k : ℕ) → (end ≤ length input) × (take end input ≡ (read_line input).0)
-    → k ≡ refusal (line_rows (take (end - 0) input)) → k ≡ 0 → Taken input end
-line_taken input end k found is zero = record { within = found.0; up_to = found.1; passes = sym is ∙ zero }
+pub line_taken : (input : List ℕ) (end : ℕ) → (end ≤ length input) × (take end input ≡ (read_line input).0)
+    → 0 ≡ refusal (line_rows (take (end - 0) input)) → Taken input end
+line_taken input end found is = record { up_to = found.1; passes = sym is }
 
 module _ {input : List ℕ} {end : ℕ} (x : Taken input end) where
   abbrev line : List ℕ
@@ -35,37 +33,17 @@ module _ {input : List ℕ} {end : ℕ} (x : Taken input end) where
   is_line : line ≡ (read_line input).0
   is_line = rw sub-zero x.up_to
 
-  long : length line ≡ end
-  long = rw sub-zero (length-take-le end input x.within)
-
   fits : (length line ≤ most_rows) × (flags_of line ≤ 10) × (each is_digit line ≡ true)
   fits =
       let (a, (b, (c, _))) = passed (line_rows line) refl x.passes in
       (ltb-false most_rows (length line) a, ltb-false 10 (flags_of line) b, not-false _ c)
 
-  pub short : end ≤ most_rows
-  short = omega (arith, long, fits.0)
+  pub rows_are : {t : List ℕ} → t ≡ rows_of line → t ≡ rows_of (read_line input).0
+  rows_are q = q ∙ ap rows_of is_line
 
-  pub digits : each is_digit line ≡ true
-  digits = fits.2
-
-  -- in the first of as many bytes as a table has at most
-  pub held : length (take (end - 0) (replicate {A = ℕ} most_rows 0)) ≡ length line
-  held = rw long at (held_front line fits.0) ∙ sym long
-
-  module _ {d : List ℕ} (q : d ≡ rows_of line) where
-    abbrev rows : List ℕ
-    rows = d ++ drop (end - 0) (replicate most_rows 0)
-
-    pub room : length rows ≡ most_rows
-    room = rw long at (read_room line fits.0 q)
-
-    pub rows_are : take (end - 0) rows ≡ rows_of (read_line input).0
-    rows_are = rw (long, is_line) at (read_front line fits.0 q)
-
-  module _ {n : ℕ} (p : n ≡ flags_from 11 0 end) where
+  module _ {n : ℕ} (p : n ≡ flags_of line) where
     pub flags_are : n ≡ flags_of (read_line input).0
-    flags_are = p ∙ ap (flags_from 11 0) (sym long) ∙ ap flags_of is_line
+    flags_are = p ∙ ap flags_of is_line
 
     pub few : n ≤ 10
     few = omega (arith, flags_are, ap flags_of is_line, fits.1)
@@ -77,5 +55,5 @@ module _ {input : List ℕ} {end : ℕ} (x : Taken input end) where
           ∙ rows_length line
           ∙ rows_power (length line) fits.1
           ∙ ap (λ (m : ℕ). 2 ^ m) (ap flags_of is_line ∙ sym flags_are),
-      ap fit_rows (q ∙ ap rows_of (sym is_line)) ∙ rows_fit line digits,
+      ap fit_rows (q ∙ ap rows_of (sym is_line)) ∙ rows_fit line fits.2,
     )

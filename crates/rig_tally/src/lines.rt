@@ -5,9 +5,9 @@ ghost use Rattle.runs.specs.Run.{Puts};
 ghost use Rattle.tallying.specs.Tally.{tally_values, tallied_reply};
 ghost use Rattle.rig_tally.specs.Printed.{most_printed};
 
-use rule::Done;
+use rule::Refusal;
 use runs::{put_byte, put_decimal, put_line};
-use tallying::{Tallied, Tally};
+use tallying::Tally;
 
 // The most numbers of a tally: three, and one for each flag.
 const NUMBERS: usize = 3 + 10;
@@ -33,10 +33,8 @@ fn put_asked(out: &mut [u8], at: usize, n: u8, asked: [u16; 10]) -> usize
     ensures { Puts out.old at (flat_map number_line (take n asked)) result out.new × (result ≤ at + n * 6) }
 {
     let mut next = at;
-    let mut v: u8 = 0;
-    while v < n {
+    for v in 0..n {
         next = put_number_line(out, next, asked[v as usize]);
-        v += 1;
     }
     next
 }
@@ -54,14 +52,12 @@ fn put_tally(out: &mut [u8], n: u8, tally: Tally) -> usize
 }
 
 // Writes what is printed of a log that was played, or refused.
-pub fn put_tallied(out: &mut [u8], n: u8, tallied: Tallied) -> usize
+pub fn put_tallied(out: &mut [u8], n: u8, tallied: Result<Tally, Refusal>) -> usize
     requires { (n ≤ 10) × (most_printed ≤ length out.old) }
-    ensures { Puts out.old 0 (printed_tally n (tallied_reply tallied.tally tallied.answer)) result out.new }
+    ensures { Puts out.old 0 (printed_tally n (tallied_reply tallied)) result out.new }
 {
-    let tally = tallied.tally;
-    let answer = tallied.answer;
-    match answer {
-        Done::Refused(k) => put_line(out, 0, b"refused", k as u16),
-        Done::Accepted => put_tally(out, n, tally),
+    match tallied {
+        Ok(tally) => put_tally(out, n, tally),
+        Err(refusal) => put_line(out, 0, b"refused", refusal.number() as u16),
     }
 }

@@ -5,7 +5,7 @@ ghost use Rattle.runs.specs.Run.{Puts};
 
 use crate::lines::{PRINTED, put_tallied};
 use crate::play::play;
-use parsing::{MOST_ROWS, flags_of, line_end, line_refusal, read_rows};
+use parsing::{MOST_ROWS, flags_of, line_end, read_rows, test_line};
 use runs::put_line;
 
 // Where the log starts: behind the line's 0A, or at the end where there is none.
@@ -24,14 +24,16 @@ pub fn rig_tally(input: &[u8], out: &mut [u8; PRINTED]) -> usize
     ensures { Puts out.old 0 (rig_tally input.now) result out.new × (result ≤ length out.new) }
 {
     let end = line_end(input);
-    let refused = line_refusal(&input[0..end]);
-    if refused != 0 {
-        return put_line(out, 0, b"refused", refused as u16);
+    let line = &input[0..end];
+    if let Err(refusal) = test_line(line) {
+        return put_line(out, 0, b"refused", refusal.number() as u16);
     }
-    let mut rows = [0u8; MOST_ROWS];
-    read_rows(&input[0..end], &mut rows[0..end]);
+    // kept: lister has these lines too. A function for both would be lent the table and hand back a part of it: its contract alone is longer.
+    let mut table = [0u8; MOST_ROWS];
+    let rows = &mut table[..line.len()];
+    read_rows(line, rows);
     let start = log_start(input, end);
-    let n = flags_of(end);
-    let tallied = play(n, &rows[0..end], &input[start..]);
+    let n = flags_of(line.len());
+    let tallied = play(n, rows, &input[start..]);
     put_tallied(out, n, tallied)
 }

@@ -7,26 +7,19 @@ use words::log::put_log;
 fn table_end(line: &[u8]) -> usize
     ensures { result ≤ length line.now }
 {
-    let mut i = 0;
-    while i < line.len() {
-        if line[i] == b';' {
-            return i;
-        }
-        i += 1;
+    match line.iter().position(|byte| *byte == b';') {
+        Some(place) => place,
+        None => line.len(),
     }
-    i
 }
 
 // Writes a table's characters into the first of the lent bytes, and a line end behind them.
 fn put_table(table: &[u8], out: &mut [u8])
     requires { length table.now < length out.old }
 {
-    let mut i = 0;
-    while i < table.len() {
-        out[i] = table[i];
-        i += 1;
-    }
-    out[i] = b'\n';
+    let end = table.len();
+    out[..end].copy_from_slice(table);
+    out[end] = b'\n';
 }
 
 // A line's input: how many bytes it has, all of the lent ones where it does not fit them.

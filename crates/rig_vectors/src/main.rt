@@ -7,9 +7,6 @@ mod assemble;
 use assemble::assemble;
 use words::{lines, print};
 
-// Standard output, by its number.
-const STDOUT_FILENO: i32 = 1;
-
 // One byte more than an input may have: one that fills them all does not fit.
 const MOST: usize = 150001;
 
@@ -24,21 +21,11 @@ fn play(line: &[u8]) {
     }
     let mut out = [0u8; rig_tally::PRINTED];
     let printed = rig_tally::rig_tally(&input[0..size], &mut out);
-    io::write_all(STDOUT_FILENO, &out[0..printed]);
-}
-
-fn each_line(buffer: &mut [u8]) {
-    let mut found = lines::first(buffer);
-    while 0 < found.left {
-        let start = found.start;
-        let end = found.end;
-        play(&buffer[start..end]);
-        found = lines::next(buffer, found);
-    }
+    print::text(&out[0..printed]);
 }
 
 // Every line of standard input.
 fn main() {
     let mut buffer = io::large_buffer();
-    each_line(&mut buffer);
+    lines::each(&mut buffer, play);
 }

@@ -1,11 +1,14 @@
 -- The rising order, named place by place.
 -- Assumes nothing.
 use mathlib.Core.Path.{◌≡◌, refl, sym, ap, ◌∙◌}
+use mathlib.Core.Logic.{inl, inr}
 use mathlib.Core.List.{List, ◌∷◌, ◌++◌}
-use Prim.Native.Nat.{ℕ, zero, suc, ◌+◌, ◌≤◌, ◌<◌}
+use Prim.Native.Nat.{ℕ, zero, suc, ◌+◌, ◌≤◌, ◌<◌, min}
 use native.Mathlib.Numerals.{add-one}
 use native.Mathlib.Omega.{arith}
 use lib.ListN.{take, set, replicate}
+use Rattle.std.proofs.Math.Nat.{min-eq_left, min-eq_right}
+use Rattle.std.proofs.lemmas.Bool.{cases_lt}
 use Rattle.rule.specs.Bits.{from}
 use Rattle.rule.specs.Order.{places, rising}
 use Rattle.rule.proofs.Zeros.{take-zeros}
@@ -31,5 +34,12 @@ pub rising-more : (i : ℕ) → i < places → set (rising i) i i ≡ rising (i 
 rising-more i h = rw add-one (named_more 0 i i places places (omega arith) h (omega arith))
 
 -- past ten flags there is no place more
-pub rising_most : (n : ℕ) → places ≤ n → rising places ≡ rising n
+rising_most : (n : ℕ) → places ≤ n → rising places ≡ rising n
 rising_most n h = named_most 0 places places _ (omega arith) ∙ sym (named_most 0 places n _ h)
+
+pub rising_within : (n : ℕ) → rising (min n places) ≡ rising n
+rising_within n =
+    elim (cases_lt n places) [
+      | inl h ↦ ap rising (min-eq_left {n = n} {m = places} (omega arith))
+      | inr h ↦ ap rising (min-eq_right {n = places} {m = n} h) ∙ rising_most n h
+    ]

@@ -4,13 +4,14 @@
 use Rattle.std.specs.Prelude.{Bool, false, List, [], ◌∷◌, ℕ, eqb, get_or}
 use Rattle.std.proofs.Math.Option.{Option, none, some}
 use Rattle.rule.specs.Walk.{table_of}
-use Rattle.rule.specs.declared.pass.Pass.{Pass}
-use Rattle.rule.specs.declared.pass.Pass.TheVariants as the-pass
+use Rattle.std.specs.declared.option.Option as given
+use Rattle.std.specs.declared.option.Option.TheVariants.{Some, None}
+use Rattle.rule.specs.declared.node.Node.{Node}
 
 -- a pass rule by its node's number, if there is one
-abbrev pub pass_of : Pass → Option ℕ
-pass_of the-pass.EveryRow = none
-pass_of (the-pass.Rule node) = some node.number
+abbrev pub pass_of : given.Option Node → Option ℕ
+pass_of None = none
+pass_of (Some node) = some node.number
 
 -- its node, for which 7 is tested
 abbrev pub pass_nodes : Option ℕ → List ℕ

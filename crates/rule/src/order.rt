@@ -16,10 +16,8 @@ impl Order {
         ensures { result.places ≡ rising n }
     {
         let mut places = [0u8; 10];
-        let mut i = 0u8;
-        while i < n && i < 10 {
+        for i in 0..n.min(10) {
             places[i as usize] = i;
-            i += 1;
         }
         Order { places }
     }

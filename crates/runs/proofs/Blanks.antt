@@ -2,17 +2,12 @@
 -- Assumes nothing.
 use mathlib.Core.Path.{◌≡◌, ◌∙◌}
 use mathlib.Core.List.{List}
-use Prim.Native.Nat.{ℕ, ◌+◌, ◌-◌, ◌≤◌, ◌<◌}
+use Prim.Native.Nat.{ℕ, ◌+◌, ◌-◌, ◌≤◌}
 use native.Mathlib.Omega.{arith}
-use lib.ListN.{length, replicate, set, length-append, length-replicate, replicate-append-replicate}
+use lib.ListN.{length, replicate, length-append, length-replicate}
 use Rattle.rule.specs.Text.{decimal, blank, right}
 use Rattle.runs.specs.Run.{Puts}
-use Rattle.runs.proofs.Puts.{puts_more, puts_then, puts_one}
-
--- a blank more
-pub puts_blank : (i : ℕ) {b d : List ℕ} {at m : ℕ} → m < length b → length d ≡ length b → Puts b at (replicate i blank) m d
-    → Puts b at (replicate (i + 1) blank) (m + 1) (set d m blank)
-puts_blank i h l p = rw (← replicate-append-replicate i 1 blank) (puts_then (omega arith) p (puts_one _ _ blank (omega arith)))
+use Rattle.runs.proofs.Puts.{puts_more}
 
 -- a number right-aligned has just its places
 pub right-length : (places x : ℕ) → length (decimal x) ≤ places → length (right places x) ≡ places

@@ -5,7 +5,9 @@ use mathlib.Core.List.{List, [], ◌∷◌, ◌++◌, append_assoc}
 use Prim.Native.Nat.{ℕ, ◌+◌, ◌≤◌, ◌<◌}
 use native.Mathlib.Omega.{arith}
 use lib.ListN.{length, take, drop, set, length-append, length-drop}
-use lib.Seq.{length-take-le, take_at, take-length, drop-append-add, drop-drop, sets-eq, paste, paste-zero}
+use lib.Seq.{length-take-le, take_at, take-length, drop-append-add, drop-drop, sets-eq, paste-zero}
+use borrow.Rule.Slice.PartMut.{put_mid}
+use Rattle.std.proofs.lemmas.Slice.{put_mid-paste}
 use Rattle.rule.specs.Reply.{accepted, WritesRun}
 use Rattle.runs.specs.Run.{over, Puts}
 
@@ -70,10 +72,14 @@ puts_within {b} {x} {d} {at} p h e =
       length-take-le at b h,
     )
 
--- a run copied whole
-pub puts_run : (b : List ℕ) (at : ℕ) (run : List ℕ) (i : ℕ) {d : List ℕ} → d ≡ paste b at run i → i ≡ length run → Puts b at run (at + i) d
+-- a run copied into its places
+pub puts_run : (b : List ℕ) (at k : ℕ) {m : ℕ} {run d : List ℕ} → d ≡ run → length run ≡ k → m ≡ at + k → Puts b at run m (put_mid at k b d)
 unfolding over
-puts_run b at run i e f = record { next_is = omega arith; after_is = e ∙ rw (f, take-length) }
+puts_run b at k {run = run} {d} e f g =
+    record {
+      next_is = omega (arith, f, g);
+      after_is = put_mid-paste at k b d run (length run) e f refl ∙ ap (λ (l : List ℕ). take at b ++ l ++ drop (at + length run) b) (take-length run);
+    }
 
 -- a call that writes a run into the first of the lent bytes, accepted
 pub run_accepted : {k r : ℕ} {run bytes after : List ℕ} (values : List ℕ) → k ≡ 0 → Puts bytes 0 run r after → WritesRun k run values bytes (accepted values) after

@@ -9,13 +9,9 @@ pub fn put_blanks(bytes: &mut [u8], at: usize, count: usize) -> usize
     requires { at + count ≤ length bytes.old }
     ensures { Puts bytes.old at (replicate count blank) result bytes.new }
 {
-    let mut i = 0;
-    while i < count {
-        let to = at + i;
-        bytes[to] = b' ';
-        i += 1;
-    }
-    at + i
+    let next = at + count;
+    bytes[at..next].fill(b' ');
+    next
 }
 
 // How many decimal digits a number has.

@@ -15,11 +15,7 @@ pub fn put_run(bytes: &mut [u8], at: usize, run: &[u8]) -> usize
     requires { at + length run.now ≤ length bytes.old }
     ensures { Puts bytes.old at run.now result bytes.new }
 {
-    let mut i = 0;
-    while i < run.len() {
-        let to = at + i;
-        bytes[to] = run[i];
-        i += 1;
-    }
-    at + i
+    let next = at + run.len();
+    bytes[at..next].copy_from_slice(run);
+    next
 }

@@ -1,7 +1,7 @@
 // One call a line.
 use crate::draw::drawn;
 use crate::lent::{BYTE_JUNK, CELL_JUNK, MOST_BYTES, MOST_CELLS};
-use rule::{Counted, Done, Drawn, Node, Order, Pass, Said};
+use rule::{Node, Order};
 use words::lent::each_is;
 use words::print;
 use words::read::{cells, digits, number, order};
@@ -14,13 +14,13 @@ pub fn flags(value: u16) -> u8 {
 // What build answers, and whether a refusal altered the lent cells.
 fn built(n: u8, table: &[u8], order: Order, cells: &mut [u16], bytes: &mut [u8]) {
     match drawn(n, table, order, cells, bytes) {
-        Drawn::Diagram { nodes, root } => {
-            print::number(b"nodes", nodes);
-            print::number(b" root", root.number);
+        Ok(drawn) => {
+            print::number(b"nodes", drawn.nodes);
+            print::number(b" root", drawn.root.number);
         }
-        Drawn::Refused(k) => {
-            print::refused(k);
-            if !each_is(cells, CELL_JUNK) {
+        Err(refusal) => {
+            print::refused(refusal.number());
+            if !each_is(cells, &CELL_JUNK) {
                 print::text(b" altered");
             }
         }
@@ -85,15 +85,14 @@ pub fn check(text: &[u8], at: usize) {
     let of = place(text, at);
     let mut lent = [0u16; MOST_CELLS];
     let length = cells(text, of.next, &mut lent);
-    let counted = checking::check(of.n, of.order, &lent[0..length], of.used, of.node);
-    match counted {
-        Counted::Nodes(nodes) => print::number(b"nodes", nodes),
-        Counted::Refused(k) => print::refused(k),
+    match checking::check(of.n, of.order, &lent[0..length], of.used, of.node) {
+        Ok(nodes) => print::number(b"nodes", nodes),
+        Err(refusal) => print::refused(refusal.number()),
     }
 }
 
 // A walk with a pass rule or without: ROW CELL CELL .. from a place on
-fn walked(of: Asked, pass: Pass, text: &[u8], at: usize) {
+fn walked(of: Asked, pass: Option<Node>, text: &[u8], at: usize) {
     let row = number(text, at);
     let mut lent = [0u16; MOST_CELLS];
     let length = cells(text, row.next, &mut lent);
@@ -107,30 +106,26 @@ fn walked(of: Asked, pass: Pass, text: &[u8], at: usize) {
         row.value,
     );
     match said {
-        Said::Answer {
-            answer,
-            asked,
-            count,
-        } => {
-            print::number(b"answer", answer as u16);
-            print::number(b" asked", asked);
-            print::number(b" number", count as u16);
+        Ok(said) => {
+            print::number(b"answer", said.answer as u16);
+            print::number(b" asked", said.asked);
+            print::number(b" number", said.count as u16);
         }
-        Said::Refused(k) => print::refused(k),
+        Err(refusal) => print::refused(refusal.number()),
     }
 }
 
 // w N ORDER USED NODE ROW CELL CELL ..
 pub fn walk(text: &[u8], at: usize) {
     let of = place(text, at);
-    walked(of, Pass::EveryRow, text, of.next);
+    walked(of, None, text, of.next);
 }
 
 // g N ORDER USED NODE PASS ROW CELL CELL ..
 pub fn walk_under(text: &[u8], at: usize) {
     let of = place(text, at);
     let pass = number(text, of.next);
-    walked(of, Pass::Rule(Node { number: pass.value }), text, pass.next);
+    walked(of, Some(Node { number: pass.value }), text, pass.next);
 }
 
 // t N ORDER USED NODE BYTES CELL CELL ..
@@ -151,8 +146,8 @@ pub fn tabulate(text: &[u8], at: usize) {
 // The answer of tabulate, and the lent bytes after it.
 fn table(of: Asked, cells: &[u16], bytes: &mut [u8]) {
     match walking::tabulate(of.n, of.order, cells, of.used, of.node, bytes) {
-        Done::Accepted => print::text(b"rows"),
-        Done::Refused(k) => print::refused(k),
+        Ok(()) => print::text(b"rows"),
+        Err(refusal) => print::refused(refusal.number()),
     }
     print::text(b" ");
     print::rows(bytes);

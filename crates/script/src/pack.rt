@@ -3,7 +3,7 @@ use crate::draw::{agrees, flag_counts, used_cells};
 use crate::lent::{BYTE_JUNK, CELL_JUNK, MOST_BYTES, MOST_CELLS};
 use crate::one::flags;
 use parsing::flags_of;
-use rule::{Drawn, Order, Packed};
+use rule::{Order, Packed};
 use words::lent::each_is;
 use words::print;
 use words::read::{digits, number};
@@ -17,25 +17,15 @@ const WORKSPACE_JUNK: u16 = 5;
 // The first n places of an order.
 fn places(n: u8, order: Order) {
     print::text(b" order");
-    let places = order.places;
-    let mut i: u8 = 0;
-    while i < n {
-        if i < 10 {
-            let at = i as usize;
-            print::number(b"", places[at] as u16);
-        }
-        i += 1;
+    for place in order.places.iter().take(n as usize) {
+        print::number(b"", u16::from(*place));
     }
 }
 
 // Says where check and tabulate disagree with what was packed, by way of lent bytes.
 fn compare(n: u8, table: &[u8], packed: Packed, cells: &[u16], bytes: &mut [u8]) {
-    let order = packed.order;
-    let answer = packed.answer;
-    let Drawn::Diagram { nodes, root } = answer else {
-        return;
-    };
-    if !agrees(n, table, order, cells, nodes, root, bytes) {
+    let Packed { order, drawn } = packed;
+    if !agrees(n, table, order, cells, drawn.nodes, drawn.root, bytes) {
         print::text(b" disagrees");
     }
 }
@@ -52,29 +42,28 @@ pub fn pack(text: &[u8], at: usize) {
     let n = flags_of(count);
     let mut cells = [CELL_JUNK; cells::MOST];
     let mut workspace = [WORKSPACE_JUNK; WORKSPACE];
-    let packed = packing::pack(n, &table[0..count], &mut cells, &mut workspace);
-    let answer = packed.answer;
-    match answer {
-        Drawn::Refused(k) => print::refused(k),
-        Drawn::Diagram { nodes, root } => {
+    match packing::pack(n, &table[0..count], &mut cells, &mut workspace) {
+        Err(refusal) => print::refused(refusal.number()),
+        Ok(packed) => {
+            let nodes = packed.drawn.nodes;
             print::number(b"nodes", nodes);
             places(n, packed.order);
             flag_counts(n, &cells, nodes);
             used_cells(n, &cells, nodes);
+            let mut bytes = [BYTE_JUNK; MOST_BYTES];
+            compare(n, &table[0..count], packed, &cells, &mut bytes[0..count]);
         }
     }
-    let mut bytes = [BYTE_JUNK; MOST_BYTES];
-    compare(n, &table[0..count], packed, &cells, &mut bytes[0..count]);
-    if !each_is(&workspace, 0) {
+    if !each_is(&workspace, &0) {
         print::text(b" workspace left");
     }
 }
 
 // What a workspace has after a call: the junk that it was lent with, 0 in each cell, or neither.
 fn workspace_after(workspace: &[u16]) {
-    if each_is(workspace, WORKSPACE_JUNK) {
+    if each_is(workspace, &WORKSPACE_JUNK) {
         print::text(b" workspace kept");
-    } else if each_is(workspace, 0) {
+    } else if each_is(workspace, &0) {
         print::text(b" workspace 0");
     } else {
         print::text(b" workspace mixed");
@@ -83,24 +72,22 @@ fn workspace_after(workspace: &[u16]) {
 
 // The answer of pack, and what was lent after it.
 fn lent(n: u8, table: &[u8], cells: &mut [u16], workspace: &mut [u16], bytes: &mut [u8]) {
-    let packed = packing::pack(n, table, cells, workspace);
-    let answer = packed.answer;
-    match answer {
-        Drawn::Diagram { nodes, root } => {
-            print::number(b"nodes", nodes);
+    match packing::pack(n, table, cells, workspace) {
+        Ok(packed) => {
+            print::number(b"nodes", packed.drawn.nodes);
             workspace_after(workspace);
+            compare(n, table, packed, cells, bytes);
         }
-        Drawn::Refused(k) => {
-            print::refused(k);
+        Err(refusal) => {
+            print::refused(refusal.number());
             workspace_after(workspace);
-            if each_is(cells, CELL_JUNK) {
+            if each_is(cells, &CELL_JUNK) {
                 print::text(b" cells kept");
             } else {
                 print::text(b" cells altered");
             }
         }
     }
-    compare(n, table, packed, cells, bytes);
 }
 
 // q N CELLS WORKSPACE TABLE

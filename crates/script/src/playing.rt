@@ -22,18 +22,8 @@ fn line(text: &[u8]) {
     print::line_end();
 }
 
-fn each_line(buffer: &mut [u8]) {
-    let mut found = lines::first(buffer);
-    while 0 < found.left {
-        let start = found.start;
-        let end = found.end;
-        line(&buffer[start..end]);
-        found = lines::next(buffer, found);
-    }
-}
-
 // Every line of standard input.
 pub fn run() {
     let mut buffer = io::large_buffer();
-    each_line(&mut buffer);
+    lines::each(&mut buffer, line);
 }

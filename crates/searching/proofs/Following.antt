@@ -1,9 +1,11 @@
 -- The order that the first flags of all sets give, flag by flag.
 -- Assumes nothing.
 use mathlib.Core.Path.{◌≡◌, refl, sym, ap, ◌∙◌}
+use mathlib.Core.Logic.{◌≢◌}
 use mathlib.Core.List.{List, [], ◌∷◌, ◌++◌, append_assoc, append-nil}
-use Prim.Native.Nat.{ℕ, suc, ◌+◌, ◌-◌, ◌^◌, ◌≤◌, ◌<◌}
+use Prim.Native.Nat.{ℕ, zero, suc, ◌+◌, ◌-◌, ◌/◌, ◌^◌, ◌≤◌, ◌<◌}
 use native.Mathlib.Omega.{arith}
+use lib.Count.{ones_in}
 use lib.ListN.{length, get_or, set, replicate, length-append}
 use lib.Pow.{pow_mono}
 use lib.Seq.{set_at}
@@ -15,46 +17,63 @@ use Rattle.theory.proofs.Sets.{full_lt, member_lt}
 use Rattle.folding.proofs.Outside.{rest_size}
 use Rattle.searching.specs.Order.{Asks, Members, Followed}
 
--- the first i flags stand in their places, and S is still to be asked
+-- ---- sets by their size
+
+full_ones : (d n : ℕ) → n ≤ d → ones_in d (2 ^ n - 1) ≡ n
+unfolding ones_in
+full_ones zero n h = omega arith
+full_ones (suc d) zero h = omega (arith, full_ones d zero (omega arith))
+full_ones (suc d) (suc n) h =
+    let e : (2 ^ suc n - 1) / 2 ≡ 2 ^ n - 1 = omega arith in
+    omega (arith, full_lt n, ap (ones_in d) e, full_ones d n (omega arith))
+
+no_ones : (d x : ℕ) → x < 2 ^ d → ones_in d x ≡ 0 → x ≡ 0
+unfolding ones_in
+no_ones zero x h e = omega arith
+no_ones (suc d) x h e = omega (arith, no_ones d (x / 2) (omega arith) (omega arith))
+
+-- ---- flag by flag
+
+-- the first i flags stand in their places, and the others are still to be asked: S
 pub record Following (n : ℕ) (first places : List ℕ) (S i : ℕ) : Type 0 where
   pub taken : List ℕ
   pub lent : length taken ≡ i
   pub places_are : places ≡ taken ++ replicate (10 - i) 0
   pub below : S < 2 ^ n
-  pub asked : i ≤ n - set_size S
+  pub asked : i + set_size S ≡ n
   pub asks : (rest : List ℕ) → Asks first S rest → Asks first (2 ^ n - 1) (taken ++ rest)
 
-pub following_none : (n : ℕ) (first : List ℕ) → Following n first (replicate 10 0) (2 ^ n - 1) 0
-following_none n first =
+pub following_none : (n : ℕ) (first : List ℕ) → n ≤ 10 → Following n first (replicate 10 0) (2 ^ n - 1) 0
+following_none n first few =
     record {
       taken = [];
       lent = refl;
       places_are = refl;
       below = full_lt n;
-      asked = omega arith;
+      asked = omega (arith, full_ones 10 n few);
       asks = λ rest h. h;
     }
 
 module _ {n S i : ℕ} {first places : List ℕ} (m : Members n first) (f : Following n first places S i) where
-  pub flag_in : 0 < S → bit S (get_or first S 0) ≡ 1
-  flag_in d = m.is S f.below (λ z. omega arith)
+  some : i < n → S ≢ 0
+  some d z = omega (arith, f.asked, ap set_size z, full_ones 10 0 (omega arith))
 
-  pub flag_small : 0 < S → get_or first S 0 < 10
+  flag_in : i < n → bit S (get_or first S 0) ≡ 1
+  flag_in d = m.is S f.below (some d)
+
+  pub flag_small : i < n → get_or first S 0 < 10
   flag_small d = omega (arith, member_lt n S (get_or first S 0) f.below (flag_in d), m.few)
 
   pub set_small : S < 1024
   set_small = omega (arith, f.below, pow_mono {i = n} {j = 10} m.few)
 
-  one_more : 0 < S → n - set_size (set_bit S (get_or first S 0) 0) ≡ suc (n - set_size S)
+  one_more : i < n → n - set_size (set_bit S (get_or first S 0) 0) ≡ suc (n - set_size S)
   one_more d = rest_size n S (get_or first S 0) m.few f.below (member_lt n S (get_or first S 0) f.below (flag_in d)) (flag_in d)
 
-  pub place_free : 0 < S → i < 10
-  place_free d = omega (arith, f.asked, one_more d, m.few)
-
-  pub following_more : {r : ℕ} → 0 < S → r ≡ set_bit S (get_or first S 0) 0 → Following n first (set places i (get_or first S 0)) r (i + 1)
+  pub following_more : {r : ℕ} → i < n → r ≡ set_bit S (get_or first S 0) 0 → Following n first (set places i (get_or first S 0)) r (i + 1)
   following_more {r} d e =
       let v = get_or first S 0 in
-      let k : 10 - i ≡ suc (10 - (i + 1)) = omega (arith, place_free d) in
+      let k : 10 - i ≡ suc (10 - (i + 1)) = omega (arith, m.few) in
       record {
         taken = f.taken ++ (v ∷ []);
         lent = length-append f.taken (v ∷ []) ∙ omega (arith, f.lent);
@@ -63,11 +82,12 @@ module _ {n S i : ℕ} {first places : List ℕ} (m : Members n first) (f : Foll
             ∙ sym (append_assoc f.taken (v ∷ []) (replicate (10 - (i + 1)) 0));
         below = omega (arith, f.below, clear_le S v);
         asked = rw e (omega (arith, f.asked, one_more d));
-        asks = λ rest h. rw append_assoc (f.asks (v ∷ rest) (λ z. omega arith, refl, rw e at h));
+        asks = λ rest h. rw append_assoc (f.asks (v ∷ rest) (some d, refl, rw e at h));
       }
 
-  pub following_all : S ≡ 0 → Followed n first places
-  following_all z =
+  pub following_all : n ≤ i → Followed n first places
+  following_all h =
+      let z : S ≡ 0 = no_ones 10 S set_small (omega (arith, f.asked)) in
       record {
         order = f.taken;
         asks = rw append-nil at (f.asks [] z);

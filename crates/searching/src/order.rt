@@ -11,12 +11,10 @@ pub fn follow(n: u8, first: &[u16; SET_COUNT]) -> Order
 {
     let mut places = [0u8; 10];
     let mut set = (arguments::row_count(n) - 1) as u16;
-    let mut i = 0;
-    while set != 0 {
+    for i in 0..n as usize {
         let v = first[set as usize];
         places[i] = v as u8;
         set = bits::set_bit(set, v, 0);
-        i += 1;
     }
     Order { places }
 }

@@ -11,10 +11,8 @@ fn begin(table: &[u8], stretch: &mut [u16])
     requires { length table.now ≡ length stretch.old }
     ensures { stretch.new ≡ table.now }
 {
-    let mut i = 0;
-    while i < table.len() {
-        stretch[i] = table[i] as u16;
-        i += 1;
+    for (i, row) in table.iter().enumerate() {
+        stretch[i] = *row as u16;
     }
 }
 
@@ -28,13 +26,11 @@ pub fn search(n: u8, table: &[u8], workspace: &mut [u16]) -> Order
     let mut first = [0u16; SET_COUNT];
     let rows = table.len();
     begin(table, &mut workspace[0..rows]);
-    let mut i = 0;
-    while i < SET_COUNT {
+    for i in 0..SET_COUNT {
         let set = sets::set_at(i);
         if set != 0 && (set as usize) < rows {
             solving::solve(n, set, &starts, workspace, &mut least, &mut first);
         }
-        i += 1;
     }
     follow(n, &first)
 }

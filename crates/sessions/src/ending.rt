@@ -2,31 +2,31 @@
 ghost use Rattle.std.specs.Prelude.{◌≤◌, ◌<◌};
 ghost use Rattle.rule.specs.Listing.{most_rows};
 
-use crate::session::{CALLS, NONE, Session};
-use rule::{Done, Node};
+use crate::session::{CALLS, Made, Session};
+use rule::Node;
 use store::Store;
 use words::print;
 
 // The rows of a table of ten flags.
 pub const MOST_ROWS: usize = 1024;
 
+// What sums are taken by, the largest prime of 16 bits.
+const MODULUS: u64 = 65521;
+
 // The rows of a table of so many flags.
 fn row_count(n: u8) -> usize
     ensures { result ≤ most_rows }
 {
-    if 10 < n {
-        return MOST_ROWS;
-    }
-    arguments::row_count(n)
+    arguments::row_count(n.min(10))
 }
 
-// A sum with 31r + 7 added where row r says yes, modulo 65,521.
+// A sum with 31r + 7 added where row r says yes.
 fn with_row(sum: u64, r: u64, answer: u8) -> u64
     requires { sum < 65521 }
     ensures { result < 65521 }
 {
     if answer == 1 {
-        (sum + r % 65521 * 31 + 7) % 65521
+        (sum + r % MODULUS * 31 + 7) % MODULUS
     } else {
         sum
     }
@@ -37,95 +37,78 @@ fn rows_sum(table: &[u8]) -> u64
     ensures { result < 65521 }
 {
     let mut sum: u64 = 0;
-    let mut r = 0;
-    while r < table.len() {
-        sum = with_row(sum, r as u64, table[r]);
-        r += 1;
+    for (r, answer) in table.iter().enumerate() {
+        sum = with_row(sum, r as u64, *answer);
     }
     sum
 }
 
-// The sum of a node's rule, whose table goes into lent bytes.
-fn rule_sum(store: Store, cells: &[u16], node: u16, bytes: &mut [u8]) -> u64
-    ensures { result < 65521 }
-{
-    let passed = store.tabulate(cells, Node { number: node }, bytes);
-    let answer = passed.answer;
-    if let Done::Refused(k) = answer {
-        print::refused(k);
-        return 0;
+// The table of a node's rule, in the first of lent bytes; a refusal is printed.
+fn table<'a>(
+    store: Store,
+    cells: &[u16],
+    node: u16,
+    lent: &'a mut [u8; MOST_ROWS],
+) -> Option<&'a [u8]> {
+    let rows = &mut lent[..row_count(store.n)];
+    match store.tabulate(cells, Node { number: node }, rows).answer {
+        Ok(()) => Some(rows),
+        Err(refusal) => {
+            print::refused(refusal.number());
+            None
+        }
     }
-    rows_sum(bytes)
 }
 
 fn node_sum(store: Store, cells: &[u16], node: u16) -> u64
     ensures { result < 65521 }
 {
-    let mut bytes = [9u8; MOST_ROWS];
-    let rows = row_count(store.n);
-    rule_sum(store, cells, node, &mut bytes[0..rows])
+    let mut lent = [9u8; MOST_ROWS];
+    match table(store, cells, node, &mut lent) {
+        Some(rows) => rows_sum(rows),
+        None => 0,
+    }
 }
 
-// The sum of the rules of all used records.
+// The sum of the rules of all used records whose nodes have a number.
 fn sum(store: Store, cells: &[u16]) -> u64
     ensures { result < 65521 }
 {
-    let used = store.used;
     let mut sum: u64 = 0;
-    let mut k: u16 = 0;
-    while k < used {
-        if 65533 < k {
-            return sum;
-        }
-        sum = (sum + node_sum(store, cells, k + 2)) % 65521;
-        k += 1;
+    for k in 0..store.used.min(65534) {
+        sum = (sum + node_sum(store, cells, k + 2)) % MODULUS;
     }
     sum
 }
 
-// A node's table, by way of lent bytes.
-fn print_rule(store: Store, cells: &[u16], node: u16, bytes: &mut [u8]) {
-    let passed = store.tabulate(cells, Node { number: node }, bytes);
-    let answer = passed.answer;
-    if let Done::Refused(k) = answer {
-        print::refused(k);
-        return;
-    }
-    print::rows(bytes);
-}
-
 fn print_table(store: Store, cells: &[u16], node: u16) {
-    let mut bytes = [9u8; MOST_ROWS];
-    let rows = row_count(store.n);
-    print_rule(store, cells, node, &mut bytes[0..rows]);
+    let mut lent = [9u8; MOST_ROWS];
+    if let Some(rows) = table(store, cells, node, &mut lent) {
+        print::rows(rows);
+    }
 }
 
-// The line of the node that a call handed back, if it was the first to do so.
-fn node_line(s: Session, cells: &[u16], call: usize) {
-    let node = s.node(call);
-    if node == NONE {
-        return;
-    }
-    if s.first(node) != call {
-        return;
-    }
+// The line of a node that a call handed back.
+fn node_line(store: Store, cells: &[u16], made: Made) {
     print::text(b"node ");
-    if s.is_inner(call) {
+    if made.is_inner {
         print::text(b"inner");
     } else {
-        print::value(node);
+        print::value(made.node);
     }
     print::text(b" ");
-    print_table(s.store, cells, node);
+    print_table(store, cells, made.node);
     print::line_end();
 }
 
-// Each node handed back, once.
+// Each node handed back, once, where the first call that did so stands.
 fn node_lines(s: Session, cells: &[u16]) {
-    let mut call = 0;
-    while call < CALLS {
-        node_line(s, cells, call);
-        call += 1;
+    for call in 0..CALLS {
+        if let Some(made) = s.made[call] {
+            if s.first(made.node) == Some(call) {
+                node_line(s.store, cells, made);
+            }
+        }
     }
 }
 

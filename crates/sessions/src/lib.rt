@@ -9,4 +9,4 @@ mod session;
 pub use beginning::{begin, fresh};
 pub use ending::{MOST_ROWS, end};
 pub use reading::{given, state};
-pub use session::{CALLS, NONE, Session};
+pub use session::{CALLS, Made, Session};

@@ -1,4 +1,4 @@
-ghost use Rattle.std.specs.Prelude.{◌≤◌};
+ghost use Rattle.std.specs.Prelude.{IfSome, ◌<◌};
 
 use store::Store;
 use words::print;
@@ -6,8 +6,12 @@ use words::print;
 // The calls of a list at most.
 pub const CALLS: usize = 40;
 
-// Stands for the node of a call that handed none back.
-pub const NONE: u16 = 65535;
+// A node that a call handed back, and whether the call was the first to hand back one that the store had only within other rules.
+#[derive(Clone, Copy)]
+pub struct Made {
+    pub node: u16,
+    pub is_inner: bool,
+}
 
 // A list as far as it was played.
 #[derive(Clone, Copy)]
@@ -20,20 +24,17 @@ pub struct Session {
     pub is_open: bool,
     // The calls so far.
     pub count: usize,
-    // The node that each handed back, if no accepted open came after it.
-    pub nodes: [u16; CALLS],
-    // Whether the call was the first to hand back a node that the store had only within other rules.
-    pub inner: [bool; CALLS],
+    // What each handed back, if no accepted open came after it.
+    pub made: [Option<Made>; CALLS],
 }
 
 impl Session {
     // One more call: the state that it left, and the node that it handed back.
-    pub fn counted(mut self, store: Store, node: u16, inner: bool) -> Session {
+    pub fn counted(mut self, store: Store, made: Option<Made>) -> Session {
         self.store = store;
         let at = self.count;
         if at < CALLS {
-            self.nodes[at] = node;
-            self.inner[at] = inner;
+            self.made[at] = made;
             self.count = at + 1;
         } else {
             print::too_long();
@@ -42,51 +43,50 @@ impl Session {
     }
 
     // The node that a call handed back.
-    pub fn node(self, call: usize) -> u16 {
-        if call < CALLS { self.nodes[call] } else { NONE }
-    }
-
-    pub fn is_inner(self, call: usize) -> bool {
+    pub fn node(self, call: usize) -> Option<u16> {
         if call < CALLS {
-            self.inner[call]
+            self.made[call].map(|made| made.node)
         } else {
-            false
+            None
         }
     }
 
-    // The first call that handed back a node, `CALLS` where none did.
-    pub fn first(self, node: u16) -> usize
-        ensures { result ≤ 40 }
+    // The first call that handed back a node.
+    pub fn first(self, node: u16) -> Option<usize>
+        ensures { IfSome result (λ call. call < 40) }
     {
-        let mut j = 0;
-        while j < CALLS {
-            if self.nodes[j] == node {
-                return j;
-            }
-            j += 1;
-        }
-        j
+        self.made
+            .iter()
+            .position(|made| made.is_some_and(|made| made.node == node))
     }
 
     // A node as a call names it: `inner` by the one just counted, else `@j`; its number where that is fixed.
     pub fn print_node(self, node: u16) {
-        let j = self.first(node);
-        if !self.is_inner(j) {
-            print::value(node);
-            return;
+        for (call, made) in self.made.iter().enumerate() {
+            if let Some(made) = made {
+                if made.node == node {
+                    return self.print_made(call, *made);
+                }
+            }
         }
-        if j + 1 == self.count {
+        print::value(node);
+    }
+
+    // What a call handed back, the first to do so.
+    fn print_made(self, call: usize, made: Made) {
+        if !made.is_inner {
+            print::value(made.node);
+        } else if call.saturating_add(1) == self.count {
             print::text(b"inner");
-            return;
+        } else {
+            print::text(b"@");
+            print::size(call);
         }
-        print::text(b"@");
-        print::value(j as u16);
     }
 
     // The end of a line: the used number of the state.
     pub fn print_used(self) {
-        let store = self.store;
-        print::number(b" used", store.used);
+        print::number(b" used", self.store.used);
         print::line_end();
     }
 }

@@ -7,9 +7,9 @@
 // tests/second/sheet.rs says what is printed, and the second program what it must be.
 #![tactic(auto)]
 
-use rule::Printed;
+use rule::Refusal;
 use words::diagram::{Asked, asked_at};
-use words::lent::{each_byte_is, fill};
+use words::lent::each_is;
 use words::read::{cells, number};
 use words::{lines, print};
 
@@ -35,24 +35,23 @@ fn printed(pages: u16, bytes: &[u8]) {
         return;
     }
     print::text(b" rest");
-    print::kept(each_byte_is(&bytes[end..], JUNK));
+    print::kept(each_is(&bytes[end..], &JUNK));
     print::line_end();
     print::text(&bytes[0..end]);
 }
 
-fn refused(k: u8, bytes: &[u8]) {
-    print::refused(k);
-    print::kept(each_byte_is(bytes, JUNK));
+fn refused(refusal: Refusal, bytes: &[u8]) {
+    print::refused(refusal.number());
+    print::kept(each_is(bytes, &JUNK));
     print::line_end();
 }
 
 // A diagram that is printed into lent bytes that are full of junk.
 fn sheet(of: Asked, cells: &[u16], bytes: &mut [u8]) {
-    fill(bytes, JUNK);
-    let answer = printing::print(of.n, of.order, cells, of.used, of.root, bytes);
-    match answer {
-        Printed::Pages(pages) => printed(pages, bytes),
-        Printed::Refused(k) => refused(k, bytes),
+    bytes.fill(JUNK);
+    match printing::print(of.n, of.order, cells, of.used, of.root, bytes) {
+        Ok(pages) => printed(pages, bytes),
+        Err(refusal) => refused(refusal, bytes),
     }
 }
 
@@ -78,18 +77,8 @@ fn call(text: &[u8]) {
     sheet(of, &held[0..length], &mut bytes[0..lent]);
 }
 
-fn each_line(buffer: &mut [u8]) {
-    let mut found = lines::first(buffer);
-    while 0 < found.left {
-        let start = found.start;
-        let end = found.end;
-        call(&buffer[start..end]);
-        found = lines::next(buffer, found);
-    }
-}
-
 // Every line of standard input.
 fn main() {
     let mut buffer = io::large_buffer();
-    each_line(&mut buffer);
+    lines::each(&mut buffer, call);
 }

@@ -2,10 +2,10 @@
 -- Assumes nothing.
 use mathlib.Core.Path.{◌≡◌, ap, ◌∙◌}
 use mathlib.Core.List.{List, ◌++◌}
-use Prim.Native.Nat.{ℕ, ◌-◌, ◌*◌, ◌≤◌}
+use Prim.Native.Nat.{ℕ, ◌-◌, ◌*◌}
 use native.Mathlib.Nat.{sub-zero}
 use native.Mathlib.Omega.{arith}
-use lib.ListN.{length, take, drop, length-append}
+use lib.ListN.{length, take, drop}
 use lib.Seq.{take_at}
 use Rattle.rule.specs.Bits.{bit, set_bit}
 use Rattle.rule.specs.Sets.{stretch}
@@ -40,11 +40,8 @@ module _ {n S : ℕ} {starts w : List ℕ} (g : Ready n S starts w) {r from to s
     held_is : take (to - from - 0) (d ++ tail) ≡ take (to - from) (drop from w)
     held_is = ap (λ (k : ℕ). take k (d ++ tail)) (sub-zero (to - from)) ∙ take_at d tail (to - from) held_length ∙ held
 
-    pub held_within : to - from ≤ length (d ++ tail)
-    held_within = omega (arith, length-append d tail, held_length)
-
     pub can_fold_held : {p : ℕ} → p ≡ place_of S v → Foldable (take (to - from - 0) (d ++ tail)) p × (length (take (to - from - 0) (d ++ tail)) ≡ length (take (end - start) (drop start w)) * 2)
     can_fold_held q = rw held_is (can_fold g v e rest a b q)
 
-    pub folded_held : {p : ℕ} {ys : List ℕ} → p ≡ place_of S v → Folds (take (to - from - 0) (d ++ tail)) p ys → Folded n S v w (take start w ++ (ys ++ drop (end - start) (drop start w)))
-    folded_held {ys = ys} q f = folded ys (rw (held_is ∙ source_is g v e rest a b, q) at f)
+    pub folded_held : {s : List ℕ} {p q : ℕ} {ys : List ℕ} → q ≡ place_of S v → (s ≡ take (to - from - 0) (d ++ tail)) × (p ≡ q) → Folds s p ys → Folded n S v w (take start w ++ (ys ++ drop (end - start) (drop start w)))
+    folded_held {ys = ys} place halves f = folded ys (rw (halves.0 ∙ held_is ∙ source_is g v e rest a b, halves.1 ∙ place) at f)

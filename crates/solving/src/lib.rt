@@ -9,20 +9,14 @@ ghost use Rattle.costing.specs.Choice.{Bounded};
 ghost use Rattle.solving.specs.Solves.{Folded, Solves};
 
 use stretches::{LONGEST, SET_COUNT};
+use ways::Halves;
 
-// The smallest flag of a set of flags below n.
-fn lowest(n: u8, set: u16) -> u16
-    requires { (n ≤ 10) × (set < 2 ^ n) × (set ≢ 0) }
+// The smallest flag of a set that is not empty.
+fn lowest(set: u16) -> u16
+    requires { set ≢ 0 }
     ensures { Lowest set result }
 {
-    let mut v: u16 = 0;
-    while v < n as u16 {
-        if bits::bit(set, v) == 1 {
-            return v;
-        }
-        v += 1;
-    }
-    0
+    set.trailing_zeros() as u16
 }
 
 // Folds the stretch of the set without v into the set's own. The one that is read is held aside: only one part of the workspace can be lent to be written.
@@ -39,11 +33,8 @@ fn fold(n: u8, set: u16, v: u16, starts: &[usize; SET_COUNT], workspace: &mut [u
     let own = stretches::locate(n, starts, set);
     let start = own.start;
     let end = own.end;
-    folding::fold(
-        &held[0..len],
-        ways::place_of(set, v),
-        &mut workspace[start..end],
-    );
+    let halves = Halves::new(&held[0..len], ways::place_of(set, v));
+    folding::fold(halves, &mut workspace[start..end]);
 }
 
 // Solves one set, whose subsets are solved.
@@ -58,7 +49,7 @@ pub fn solve(
     requires { Ready n set starts.now workspace.old × Bounded n least.old }
     ensures { Solves n set workspace.old least.old first.old workspace.new least.new first.new }
 {
-    let v = lowest(n, set);
+    let v = lowest(set);
     fold(n, set, v, starts, workspace);
     let choice = costing::cheapest(n, set, v, starts, workspace, least);
     least[set as usize] = choice.cost;

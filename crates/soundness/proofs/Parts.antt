@@ -4,21 +4,20 @@ use mathlib.Core.Path.{◌≡◌, refl, sym, ap, ◌∙◌}
 use mathlib.Core.Bool.{Bool, true, false, not, ◌&&◌}
 use mathlib.Core.List.{List, [], ◌∷◌}
 use Prim.Native.Nat.{ℕ, ◌+◌, ◌≤◌, ◌<◌}
-use native.Mathlib.Decide.{ℕ_discrete}
 use native.Mathlib.Omega.{arith}
 use borrow.Author.Count.{below_more}
-use borrow.Author.Tests.{eqb-true, eq-eqb, ne_eqb, ltb-true, lt-ltb, le-leb, lt-leb, not-true, not-false}
+use borrow.Author.Tests.{eqb-true, eq-eqb, ne_eqb, ltb-true, not-true, not-false}
 use lib.Dec.{eqb, leb, ltb}
 use Rattle.rule.specs.Bits.{below}
 use Rattle.rule.specs.Tests.{each}
 use Rattle.rule.specs.Order.{flags}
 use Rattle.rule.specs.Cells.{room, flag_at, low_at, high_at}
-use Rattle.rule.specs.Sound.{flags_below, children_differ, children_smaller, asks_later, children_later, same_record, none_equal, rest_clear, laid, sound, shaped}
+use Rattle.rule.specs.Sound.{flags_below, children_differ, children_smaller, children_later, same_record, none_equal, rest_clear, laid, sound, shaped}
 use Rattle.theory.proofs.Tests.{and_split, below_each}
 use Rattle.theory.proofs.Scan.{fails_below}
-use Rattle.levels.specs.declared.level.Levels.{Levels}
+use Rattle.std.specs.Prelude.{Option, Some, None, is_none}
 use Rattle.record_index.specs.Find.{Finds}
-use Rattle.soundness.specs.Record.{is_new, fit_record, Child, Next}
+use Rattle.soundness.specs.Record.{is_new, fit_record}
 
 fails : (b : Bool) → (b ≡ true → ⊥) → b ≡ false
 fails true d = absurd (d refl)
@@ -40,67 +39,20 @@ module _ (c : List ℕ) (j k : ℕ) where
       let g = and_split (eqb (low_at c j) (low_at c k)) _ f.1 in
       d (eqb-true _ _ f.0) (eqb-true _ _ g.0) (eqb-true _ _ g.1))
 
--- ---- a record whose flag and children are read
-
--- a record's fields, of which the flag is below n and the children differ and are smaller
-pub record Fields (n : ℕ) (c : List ℕ) (k flag low high : ℕ) : Type 0 where
-  pub flag_is : flag ≡ flag_at c k
-  pub low_is : low ≡ low_at c k
-  pub high_is : high ≡ high_at c k
-  pub below_n : flag < n
-  pub differ : low ≡ high → ⊥
-  pub low_smaller : low < k + 2
-  pub high_smaller : high < k + 2
-
--- a smaller node is a child that the order can be asked of
-pub next_child : {levels : Levels} {c index : List ℕ} {k flag low high : ℕ} → Next levels c k index → Fields levels.n c k flag low high
-    → (m : ℕ) → m < k + 2 → Child levels c flag m
-next_child x f m h =
-    record { turned = x.turned; flag = f.below_n; node = omega (arith, x.fits); child_flag = λ g. x.flags _ (omega arith) }
+-- ---- a record that is new
 
 -- the record is new where a search for it among those before it finds none
-pub found_new : {n : ℕ} {c : List ℕ} {k flag low high r : ℕ} → Fields n c k flag low high → Finds c k flag low high r → eqb r k ≡ is_new c k
+pub found_new : (c : List ℕ) (k : ℕ) {flag low high : ℕ} (r : Option ℕ) → flag ≡ flag_at c k → low ≡ low_at c k → high ≡ high_at c k
+    → Finds c k flag low high r → is_none r ≡ is_new c k
 unfolding is_new
-found_new {n} {c} {k} {flag} {low} {high} {r} fields found = go (ℕ_discrete r k)
-  where
-    go : Dec (r ≡ k) → eqb r k ≡ each (λ j. not (same_record c j k)) (below k)
-    go (yes e) =
-        eq-eqb _ _ e
-        ∙ sym (below_each _ k (λ i h.
-        ap not (other_record _ _ _ (λ p q s.
-        found.none e i h (record { flag_is = p ∙ sym fields.flag_is; low_is = q ∙ sym fields.low_is; high_is = s ∙ sym fields.high_is })))))
-    go (no d) =
-        let less : r < k = omega (arith, found.most, d) in
-        let is = found.there less in
-        ne_eqb _ _ d
-        ∙ sym (fails_below _ k r less
-        (ap not (same_record_lem _ _ _ (is.flag_is ∙ fields.flag_is) (is.low_is ∙ fields.low_is) (is.high_is ∙ fields.high_is))))
-
-module _ (n : ℕ) (order c : List ℕ) (k flag low high : ℕ) (fields : Fields n c k flag low high) where
-  fit_rest : fit_record n order c k ≡ ((asks_later order c flag low && asks_later order c flag high) && is_new c k)
-  unfolding fit_record
-  fit_rest =
-      rw (
-        ← fields.flag_is,
-        ← fields.low_is,
-        ← fields.high_is,
-        lt-ltb _ _ fields.below_n,
-        ne_eqb _ _ fields.differ,
-        lt-ltb _ _ fields.low_smaller,
-        lt-ltb _ _ fields.high_smaller,
-      )
-
-  -- what the order's tests and the last one say of it
-  pub fit_new : {a b r : Bool} → a ≡ asks_later order c flag low → a ≡ true → b ≡ asks_later order c flag high → b ≡ true
-      → r ≡ is_new c k → r ≡ fit_record n order c k
-  fit_new p e q f g = g ∙ sym (fit_rest ∙ rw (sym p ∙ e, sym q ∙ f))
-
-  pub fit_not_low : {a : Bool} → a ≡ asks_later order c flag low → a ≡ false → false ≡ fit_record n order c k
-  fit_not_low p e = sym (fit_rest ∙ rw (sym p ∙ e))
-
-  pub fit_not_high : {a b : Bool} → a ≡ asks_later order c flag low → a ≡ true → b ≡ asks_later order c flag high → b ≡ false
-      → false ≡ fit_record n order c k
-  fit_not_high p e q f = sym (fit_rest ∙ rw (sym p ∙ e, sym q ∙ f))
+found_new c k None flag_is low_is high_is found =
+    sym (below_each _ k (λ i h.
+    ap not (other_record _ _ _ (λ p q s.
+    found i h (record { flag_is = p ∙ sym flag_is; low_is = q ∙ sym low_is; high_is = s ∙ sym high_is })))))
+found_new c k (Some j) flag_is low_is high_is found =
+    let is = found.1 in
+    sym (fails_below _ k j found.0
+    (ap not (same_record_lem _ _ _ (is.flag_is ∙ flag_is) (is.low_is ∙ low_is) (is.high_is ∙ high_is))))
 
 -- ---- all records
 
@@ -159,17 +111,6 @@ and_behind true false false = refl
 
 -- "sound" by one test of each used record
 module _ (n : ℕ) (order c : List ℕ) (used : ℕ) where
-  sound_by : sound n order c used ≡ (leb used (room c) && (each (fit_record n (flags n order) c) (below used) && rest_clear c used))
+  pub sound_by : sound n order c used ≡ (leb used (room c) && (each (fit_record n (flags n order) c) (below used) && rest_clear c used))
   unfolding sound shaped laid
   sound_by = rw all_parts (and_behind (leb used (room c)) (rest_clear c used) _)
-
-  pub sound_full : {r : ℕ} → r ≡ room c → r < used → false ≡ sound n order c used
-  sound_full e h = sym (sound_by ∙ rw (lt-leb used (room c) (omega arith)))
-
-  pub sound_unfit : {r : ℕ} {a : Bool} → r ≡ room c → used ≤ r → a ≡ each (fit_record n (flags n order) c) (below used) → a ≡ false
-      → false ≡ sound n order c used
-  sound_unfit e h p f = sym (sound_by ∙ rw (le-leb used (room c) (omega arith), sym p ∙ f))
-
-  pub sound_rest : {r : ℕ} {a b : Bool} → r ≡ room c → used ≤ r → a ≡ each (fit_record n (flags n order) c) (below used) → a ≡ true
-      → b ≡ rest_clear c used → b ≡ sound n order c used
-  sound_rest e h p f q = q ∙ sym (sound_by ∙ rw (le-leb used (room c) (omega arith), sym p ∙ f))

@@ -6,7 +6,6 @@ use Rattle.rule.specs.Tests.{each}
 use Rattle.rule.specs.Cells.{most_records, room, flag_at, low_at, high_at, record_of}
 use Rattle.rule.specs.Sound.{asks_later, same_record}
 use Rattle.levels.specs.declared.level.Levels.{Levels}
-use Rattle.levels.specs.Level.{Turned}
 use Rattle.record_index.specs.Index.{Indexed}
 
 -- record k equals none before it
@@ -23,14 +22,12 @@ fit_record n order c k =
 
 -- a flag below n, and a node that is an end node or a record that asks such a flag
 pub record Child (levels : Levels) (c : List ℕ) (v m : ℕ) : Type 0 where
-  pub turned : Turned levels
   pub flag : v < levels.n
   pub node : m ≤ room c + 1
   pub child_flag : 2 ≤ m → flag_at c (record_of m) < levels.n
 
 -- record k is the next to be tested: those before it ask flags below n, and are entered in the index
 pub record Next (levels : Levels) (c : List ℕ) (k : ℕ) (index : List ℕ) : Type 0 where
-  pub turned : Turned levels
   pub fits : k < room c
   pub few : room c ≤ most_records
   pub flags : (j : ℕ) → j < k → flag_at c j < levels.n

@@ -1,4 +1,4 @@
--- A store's state as the definitions of crate rule have it. (What its answers hand back is `done_reply`, `made_reply`, `said_reply` and `sought_reply`
+-- A store's state as the definitions of crate rule have it. (What its answers hand back is `done_reply`, `made_reply`, `said_reply` and `number_reply`
 -- there, and `tallied_reply` in crate tallying.)
 -- Assumes nothing.
 use Rattle.rule.specs.Calls.{State}

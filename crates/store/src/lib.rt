@@ -6,4 +6,4 @@ mod plain;
 mod rules;
 mod state;
 
-pub use state::{Passed, Provoked, Replayed, Store, Stored, Walked};
+pub use state::{Kept, Store};

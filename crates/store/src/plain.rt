@@ -1,39 +1,39 @@
 // Open, and the calls that make no rule: tabulate, walk, provoke and replay.
-ghost use Rattle.rule.specs.Answers.{done_reply, said_reply, sought_reply};
+ghost use Rattle.rule.specs.Answers.{done_reply, said_reply, number_reply};
 ghost use Rattle.rule.specs.Calls.{Open, Tabulate, Walk, Provoke, Replay};
 ghost use Rattle.rule.specs.Pass.{pass_of};
 ghost use Rattle.tallying.specs.Tally.{tallied_reply};
 ghost use Rattle.store.specs.State.{state_of};
 
-use crate::state::{Passed, Provoked, Replayed, Store, Walked};
-use rule::{Done, Node, Pass};
+use crate::state::{Kept, Store};
+use rule::{Node, Said};
+use tallying::Tally;
 
 impl Store {
     // Open: an empty store of this number of flags and this order, all cells cleared; or why there is none: 1, 4, then 5.
-    pub fn open(mut self, cells: &mut [u16]) -> Passed
+    pub fn open(mut self, cells: &mut [u16]) -> Kept<()>
         ensures { Open (state_of self) cells.old (done_reply result.answer) (state_of result.store) cells.new }
     {
-        let refused = refusing::open_refusal(self.n, self.order, cells);
-        if refused != 0 {
-            return Passed {
+        if let Err(refusal) = refusing::test_open(self.n, self.order, cells) {
+            return Kept {
                 store: self,
-                answer: Done::Refused(refused),
+                answer: Err(refusal),
             };
         }
         cells::clear_from(cells, 0);
         self.used = 0;
-        Passed {
+        Kept {
             store: self,
-            answer: Done::Accepted,
+            answer: Ok(()),
         }
     }
 
     // Tabulate: the table of a rule in lent bytes; or why there is none: 1, 2, 4, 5, 6, then 7.
-    pub fn tabulate(self, cells: &[u16], rule: Node, bytes: &mut [u8]) -> Passed
+    pub fn tabulate(self, cells: &[u16], rule: Node, bytes: &mut [u8]) -> Kept<()>
         ensures { Tabulate (state_of self) cells.now rule.number bytes.old (done_reply result.answer) (state_of result.store) bytes.new }
     {
         let answer = walking::tabulate(self.n, self.order, cells, self.used, rule, bytes);
-        Passed {
+        Kept {
             store: self,
             answer,
         }
@@ -41,11 +41,11 @@ impl Store {
 
     // Walk: the answer of a rule in a row that its pass rule, if it has one, allows, the set of the flags asked and their number; or why there is none: 1, 4, 5,
     // 6, 7 for the rule, 7 for the pass rule, 9, then 14.
-    pub fn walk(self, cells: &[u16], rule: Node, pass: Pass, row: u16) -> Walked
+    pub fn walk(self, cells: &[u16], rule: Node, pass: Option<Node>, row: u16) -> Kept<Said>
         ensures { Walk (state_of self) cells.now rule.number (pass_of pass) row (said_reply result.answer) (state_of result.store) }
     {
         let answer = walking::walk(self.n, self.order, cells, self.used, rule, pass, row);
-        Walked {
+        Kept {
             store: self,
             answer,
         }
@@ -61,13 +61,13 @@ impl Store {
         pass: Node,
         fixed: u16,
         ones: u16,
-    ) -> Provoked
-        ensures { Provoke (state_of self) cells.now rule.number wanted pass.number fixed ones (sought_reply result.answer) (state_of result.store) }
+    ) -> Kept<u16>
+        ensures { Provoke (state_of self) cells.now rule.number wanted pass.number fixed ones (number_reply result.answer) (state_of result.store) }
     {
         let answer = provoking::provoke(
             self.n, self.order, cells, self.used, rule, wanted, pass, fixed, ones,
         );
-        Provoked {
+        Kept {
             store: self,
             answer,
         }
@@ -75,15 +75,12 @@ impl Store {
 
     // Replay: the tally of a log that is played through a rule under a pass rule, if it has one; or why there is none: 1, 4, 5, 6, 7 for the rule, 7 for the
     // pass rule, 16, then for each snapshot 9 and 14.
-    pub fn replay(self, cells: &[u16], rule: Node, pass: Pass, log: &[u8]) -> Replayed
-        ensures { Replay (state_of self) cells.now rule.number (pass_of pass) log.now (tallied_reply result.tally result.answer) (state_of result.store) }
+    pub fn replay(self, cells: &[u16], rule: Node, pass: Option<Node>, log: &[u8]) -> Kept<Tally>
+        ensures { Replay (state_of self) cells.now rule.number (pass_of pass) log.now (tallied_reply result.answer) (state_of result.store) }
     {
-        let played = replaying::replay(self.n, self.order, cells, self.used, rule, pass, log);
-        let tally = played.tally;
-        let answer = played.answer;
-        Replayed {
+        let answer = replaying::replay(self.n, self.order, cells, self.used, rule, pass, log);
+        Kept {
             store: self,
-            tally,
             answer,
         }
     }

@@ -3,10 +3,9 @@
 use coding::CALL;
 use noting::NOTE;
 use playing::play;
-use rule::Order;
-use sessions::{CALLS, NONE, Session, given, state};
+use sessions::{CALLS, Made, Session, given, state};
 use store::Store;
-use words::lent::each_byte_is;
+use words::lent::each_is;
 use words::log::put_log;
 use words::print;
 use words::read::byte;
@@ -27,8 +26,7 @@ struct Reached {
 // The call that the words code, made with these bytes.
 fn told(s: Session, words: &[u16; CALL], cells: &mut [u16], bytes: &mut [u8; BYTES]) -> Reached {
     let mut answers = [0u16; NOTE];
-    let played = play(s.store, words, cells, bytes, &mut answers);
-    let store = played.store;
+    let store = play(s.store, words, cells, bytes, &mut answers).store;
     Reached { store, answers }
 }
 
@@ -38,30 +36,15 @@ fn told_alone(s: Session, words: &[u16; CALL], cells: &mut [u16]) -> Reached {
     told(s, words, cells, &mut bytes)
 }
 
-// The flag at a place of an order.
-fn place(order: Order, i: usize) -> u16 {
-    let places = order.places;
-    if i < 10 { places[i] as u16 } else { 0 }
-}
-
 // N ORDER USED as the words of an open.
 fn opening(given: Store) -> [u16; CALL] {
-    let order = given.order;
-    [
-        0,
-        given.n as u16,
-        given.used,
-        place(order, 0),
-        place(order, 1),
-        place(order, 2),
-        place(order, 3),
-        place(order, 4),
-        place(order, 5),
-        place(order, 6),
-        place(order, 7),
-        place(order, 8),
-        place(order, 9),
-    ]
+    let mut words = [0u16; CALL];
+    words[1] = given.n as u16;
+    words[2] = given.used;
+    for (word, place) in words[3..].iter_mut().zip(&given.order.places) {
+        *word = *place as u16;
+    }
+    words
 }
 
 // o N ORDER USED
@@ -72,13 +55,13 @@ fn open(mut s: Session, text: &[u8], cells: &mut [u16]) -> Session {
     print::text(b"open ");
     if number == 0 {
         print::text(b"accepted");
-        s.nodes = [NONE; CALLS];
+        s.made = [None; CALLS];
         s.is_open = true;
     } else {
         print::number(b"refused", number);
         s.is_open = false;
     }
-    s.counted(told.store, NONE, false)
+    s.counted(told.store, None)
 }
 
 // The number by which `play` knows the call of a command.
@@ -120,53 +103,36 @@ fn asked(s: Session, text: &[u8], command: u8) -> [u16; CALL] {
 
 // Whether the store had the node only within other rules, where a call that left so many used records hands it back.
 fn is_inner(s: Session, node: u16, used: u16) -> bool {
-    let store = s.store;
-    if node < 2 {
-        return false;
-    }
-    if s.first(node) < CALLS {
-        return false;
-    }
-    used == store.used
+    2 <= node && s.first(node).is_none() && used == s.store.used
 }
 
 // A call that makes a rule.
 fn make(s: Session, text: &[u8], cells: &mut [u16], command: u8) -> Session {
     let words = asked(s, text, command);
     let told = told_alone(s, &words, cells);
-    let store = told.store;
     let number = told.answers[0];
     if number != 0 {
         print::number(b"refused", number);
-        return s.counted(store, NONE, false);
+        return s.counted(told.store, None);
     }
     let node = told.answers[1];
-    let after = s.counted(store, node, is_inner(s, node, store.used));
+    let is_inner = is_inner(s, node, told.store.used);
+    let after = s.counted(told.store, Some(Made { node, is_inner }));
     print::text(b"rule ");
     after.print_node(node);
     after
 }
 
-// The first so many rows of these.
-fn first_rows(bytes: &[u8], length: u16) {
-    let end = length as usize;
-    if bytes.len() < end {
-        print::too_long();
-        return;
-    }
-    print::rows(&bytes[0..end]);
-}
-
-// An accepted tabulate: the bytes that it was lent.
+// An accepted tabulate: the first so many of the bytes that it was lent.
 fn table(bytes: &[u8; BYTES], length: u16) {
     print::text(b"table ");
-    first_rows(bytes, length);
+    print::rows(&bytes[..length as usize]);
 }
 
 // A refused one: its number, and whether it altered lent bytes.
 fn refused_table(number: u16, bytes: &[u8; BYTES]) {
     print::number(b"refused", number);
-    if each_byte_is(bytes, JUNK) {
+    if each_is(bytes, &JUNK) {
         print::text(b" bytes kept");
     } else {
         print::text(b" bytes lost");
@@ -184,7 +150,7 @@ fn tabulate(s: Session, text: &[u8], cells: &mut [u16]) -> Session {
     } else {
         refused_table(number, &bytes);
     }
-    s.counted(told.store, NONE, false)
+    s.counted(told.store, None)
 }
 
 // w A ROW, or g A PASS ROW, which has a pass rule
@@ -193,14 +159,13 @@ fn walk(s: Session, text: &[u8], cells: &mut [u16], command: u8) -> Session {
     let told = told_alone(s, &words, cells);
     let number = told.answers[0];
     if number == 0 {
-        let answers = told.answers;
-        print::number(b"answer", answers[1]);
-        print::number(b" asked", answers[2]);
-        print::number(b" number", answers[3]);
+        print::number(b"answer", told.answers[1]);
+        print::number(b" asked", told.answers[2]);
+        print::number(b" number", told.answers[3]);
     } else {
         print::number(b"refused", number);
     }
-    s.counted(told.store, NONE, false)
+    s.counted(told.store, None)
 }
 
 // p A WANTED PASS FIXED ONES
@@ -209,12 +174,11 @@ fn provoke(s: Session, text: &[u8], cells: &mut [u16]) -> Session {
     let told = told_alone(s, &words, cells);
     let number = told.answers[0];
     if number == 0 {
-        let answers = told.answers;
-        print::number(b"row", answers[1]);
+        print::number(b"row", told.answers[1]);
     } else {
         print::number(b"refused", number);
     }
-    s.counted(told.store, NONE, false)
+    s.counted(told.store, None)
 }
 
 // A tally that was noted.
@@ -240,12 +204,11 @@ fn replay(s: Session, text: &[u8], cells: &mut [u16], command: u8) -> Session {
     let told = told(s, &words, cells, &mut bytes);
     let number = told.answers[0];
     if number == 0 {
-        let answers = told.answers;
-        tally(answers);
+        tally(told.answers);
     } else {
         print::number(b"refused", number);
     }
-    s.counted(told.store, NONE, false)
+    s.counted(told.store, None)
 }
 
 // The call of a command, and its line of output but for the end.

@@ -8,10 +8,9 @@ const MOST_CELLS: usize = cells::MOST + cells::WIDTH;
 
 // One line, and what it prints.
 fn line(s: Session, text: &[u8], cells: &mut [u16]) -> Session {
-    if text.len() == 0 {
+    let Some(&command) = text.first() else {
         return s;
-    }
-    let command = text[0];
+    };
     if command == b'l' {
         return begin(text, cells);
     }
@@ -30,13 +29,7 @@ fn line(s: Session, text: &[u8], cells: &mut [u16]) -> Session {
 
 fn each_line(buffer: &mut [u8], cells: &mut [u16]) {
     let mut s = fresh(0);
-    let mut found = lines::first(buffer);
-    while 0 < found.left {
-        let start = found.start;
-        let end = found.end;
-        s = line(s, &buffer[start..end], cells);
-        found = lines::next(buffer, found);
-    }
+    lines::each(buffer, |text| s = line(s, text, cells));
 }
 
 // Every line of standard input.

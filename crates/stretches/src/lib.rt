@@ -34,11 +34,9 @@ pub fn starts(n: u8) -> [usize; SET_COUNT]
     let mut starts = [0usize; SET_COUNT];
     let end = arguments::row_count(n) as u16;
     let mut at: usize = 0;
-    let mut set: u16 = 0;
-    while set < end {
+    for set in 0..end {
         starts[set as usize] = at;
         at += length(n, set);
-        set += 1;
     }
     starts
 }
@@ -58,11 +56,5 @@ pub fn cell_count(n: u8) -> usize
     requires { n ≤ 10 }
     ensures { result ≡ 3 ^ n }
 {
-    let mut cells: usize = 1;
-    let mut i: u8 = 0;
-    while i < n {
-        cells *= 3;
-        i += 1;
-    }
-    cells
+    3usize.pow(n as u32)
 }

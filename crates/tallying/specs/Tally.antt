@@ -1,11 +1,11 @@
 -- The tally of a log as one record, and the next one.
 -- Assumes nothing.
-use Rattle.std.specs.Prelude.{cond, List, [], ◌∷◌, map, ℕ, ◌+◌, ◌/◌, ◌%◌, ◌≤◌, eqb, length, get_or, replicate}
+use Rattle.std.specs.Prelude.{cond, List, [], ◌∷◌, map, ℕ, ◌+◌, ◌/◌, ◌%◌, ◌≤◌, eqb, length, get_or, replicate, Result, Ok, Err}
 use Rattle.rule.specs.Bits.{below}
-use Rattle.rule.specs.Log.{Played, yes_answers, changes, times_asked}
+use Rattle.rule.specs.Log.{Played, tally_numbers, yes_answers, changes, times_asked}
 use Rattle.rule.specs.Reply.{Reply, accepted, refused}
-use Rattle.rule.specs.declared.answer.Done.{Done}
-use Rattle.rule.specs.declared.answer.Done.TheVariants as the-done
+use Rattle.rule.specs.Answers.{refusal_number}
+use Rattle.rule.specs.declared.refusal.Refusal.{Refusal}
 use Rattle.tallying.specs.declared.Tally.{Tally}
 
 -- ---- as the paper counts it
@@ -14,12 +14,12 @@ use Rattle.tallying.specs.declared.Tally.{Tally}
 abbrev pub tally_values : Tally → List ℕ
 tally_values t = t.played ∷ t.yes ∷ t.changes ∷ t.asked
 
--- a log that was played, or refused: its number, and what stands in the tally's place
-abbrev pub tallied_reply : Tally → Done → Reply
-tallied_reply t the-done.Accepted = accepted (tally_values t)
-tallied_reply t (the-done.Refused k) = refused k (tally_values t)
+-- a log that was played, or refused: its number, and zeros in the tally's place
+abbrev pub tallied_reply : Result Tally Refusal → Reply
+tallied_reply (Ok t) = accepted (tally_values t)
+tallied_reply (Err k) = refused (refusal_number k) (replicate tally_numbers 0)
 
--- the tally of no snapshot, which a refused log has too: zeros
+-- the tally of no snapshot: zeros
 abbrev pub no_tally : Tally
 no_tally = record { played = 0; yes = 0; changes = 0; asked = replicate 10 0 }
 

@@ -5,8 +5,6 @@
 ghost use Rattle.std.specs.Prelude.{◌≡◌, ℕ, ◌<◌, get_or};
 ghost use Rattle.tallying.specs.Tally.{counted, changed, Counts, next_tally};
 
-use rule::Done;
-
 // Snapshots played, yes answers, changes of answer, and how often each flag was asked.
 #[derive(Clone, Copy)]
 pub struct Tally {
@@ -17,20 +15,13 @@ pub struct Tally {
 }
 
 impl Tally {
-    // The tally of no snapshot, which a refusal hands back too: zeros.
+    // The tally of no snapshot: zeros.
     pub const ZEROS: Tally = Tally {
         played: 0,
         yes: 0,
         changes: 0,
         asked: [0; 10],
     };
-}
-
-// A log that was played, or why it was not: the tally, all 0 where it is refused, beside the answer.
-#[derive(Clone, Copy)]
-pub struct Tallied {
-    pub tally: Tally,
-    pub answer: Done,
 }
 
 // One more for each flag of the set.
@@ -40,11 +31,9 @@ fn count(asked: [u16; 10], flags: u16) -> [u16; 10]
 {
     let mut counts = asked;
     let mut rest = flags;
-    let mut v: usize = 0;
-    while v < 10 {
-        counts[v] = counts[v] + rest % 2;
-        rest = rest / 2;
-        v += 1;
+    for count in counts.iter_mut() {
+        *count += rest % 2;
+        rest /= 2;
     }
     counts
 }

@@ -3,4 +3,4 @@
 
 mod terminal;
 
-pub use terminal::{Terminal, terminal_case};
+pub use terminal::terminal_case;

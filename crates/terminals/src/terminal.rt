@@ -3,46 +3,36 @@ ghost use Rattle.std.specs.Prelude.{◌≡◌, ◌≤◌, ◌<◌};
 ghost use Rattle.rule.specs.Results.{digit};
 ghost use Rattle.terminals.specs.Terminal.{by_digits, terminal};
 
-use operators::Digit;
 use rule::Node;
-
-// The node of two rules joined, or that one must go down for it.
-#[derive(Clone, Copy)]
-pub enum Terminal {
-    Node(u16),
-    Down,
-}
 
 // The operator's digit for two end nodes.
 fn digit(code: u8, first: u16, second: u16) -> u16
     requires { (code ≤ 15) × (first < 2) × (second < 2) }
     ensures { result ≡ digit code first second }
 {
-    let answer = operators::operate(code, first, second);
-    match answer {
-        Digit::Node(m) => m,
-        // no code up to 15 is refused
-        Digit::Refused => Node::NO.number,
-    }
+    // no code up to 15 is refused
+    operators::operate(code, first, second).unwrap()
 }
 
 // What a node's rule becomes by the digits for its no and its yes: their end node where they are one, itself where each stays. Its opposite, for 1 and 0, is gone
 // down for, since that may have records that the store lacks. The other two are told apart without a jump, which half the time would be the wrong one.
-fn by_digits(no: u16, yes: u16, m: u16) -> Terminal
+#[tactic(auto, unfolding(crate::specs::Terminal::by_digits))]
+fn by_digits(no: u16, yes: u16, m: u16) -> Option<u16>
     ensures { result ≡ by_digits no yes m }
 {
     if yes < no {
-        return Terminal::Down;
+        return None;
     }
     let mut node = m;
     if no == yes {
         node = no;
     }
-    Terminal::Node(node)
+    Some(node)
 }
 
-// Two end nodes, an end node and a record, or one record twice.
-pub fn terminal_case(code: u8, f: u16, g: u16) -> Terminal
+// The node of two rules joined where they are two end nodes, an end node and a record, or one record twice; None where one must go down for it.
+#[tactic(auto, unfolding(crate::specs::Terminal::terminal))]
+pub fn terminal_case(code: u8, f: u16, g: u16) -> Option<u16>
     requires { code ≤ 15 }
     ensures { result ≡ terminal code f g }
 {
@@ -50,7 +40,7 @@ pub fn terminal_case(code: u8, f: u16, g: u16) -> Terminal
     let yes = Node::YES.number;
     if f < 2 {
         if g < 2 {
-            return Terminal::Node(digit(code, f, g));
+            return Some(digit(code, f, g));
         }
         return by_digits(digit(code, f, no), digit(code, f, yes), g);
     }
@@ -60,5 +50,5 @@ pub fn terminal_case(code: u8, f: u16, g: u16) -> Terminal
     if f == g {
         return by_digits(digit(code, no, no), digit(code, yes, yes), f);
     }
-    Terminal::Down
+    None
 }

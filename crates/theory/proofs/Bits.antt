@@ -5,9 +5,11 @@ use mathlib.Core.Logic.{◌≢◌, inl, inr}
 use mathlib.Core.List.{List, [], ◌∷◌, ◌++◌, map, map-append}
 use Prim.Native.Nat.{ℕ, zero, suc, ◌+◌, ◌*◌, ◌/◌, ◌%◌, ◌^◌, ◌≤◌, ◌<◌, suc-le-suc}
 use native.Mathlib.Nat.{add-zero, zero-add, le_of_suc-le-suc, not-suc-le-zero, eq-or-lt_of_le, div-one, div-div-eq-div-mul, pow-succ'}
+use native.Mathlib.Numerals.{add-one}
 use native.Mathlib.Decide.{ℕ_discrete}
 use native.Mathlib.Omega.{arith}
 use lib.ListN.{length, get_or, length-map}
+use Rattle.std.specs.List.{range_with_len}
 use Rattle.rule.specs.Bits.{bit, set_bit, from, below}
 use Rattle.theory.proofs.Member.{In, head, tail, not-nil, cases_cons}
 
@@ -17,6 +19,12 @@ pub length_from : (a k : ℕ) → length (from a k) ≡ k
 unfolding from
 length_from a zero = refl
 length_from a (suc k) = ap suc (length_from (suc a) k)
+
+-- the library's word
+pub range_is : (a k : ℕ) → range_with_len a k ≡ from a k
+unfolding from
+range_is a zero = refl
+range_is a (suc k) = rw (range_is (a + 1) k, add-one)
 
 -- its members are the numbers from a to below a + k
 pub from_in : (a k i : ℕ) → In i (from a k) → (a ≤ i) × (i < a + k)

@@ -20,7 +20,6 @@ pub mod Sets
 pub mod Packed
 pub mod Orders
 pub mod Search
-pub mod Times
 pub mod Shape
 pub mod Sound
 pub mod Walks

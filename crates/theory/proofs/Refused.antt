@@ -7,10 +7,31 @@ use Prim.Native.Nat.{ℕ, zero, suc, ◌≤◌}
 use native.Mathlib.Omega.{arith}
 use borrow.Author.Tests.{ltb-true, leb-true, eq-eqb}
 use lib.Dec.{eqb, leb, ltb}
-use lib.ListN.{length, drop}
 use Rattle.rule.specs.Refusals.{Row, first_else, refusal}
-use Rattle.rule.specs.Reply.{Reply, accepted, refused, reply, leaves, WritesRun}
+use Rattle.rule.specs.Answers.{refusal_number}
+use Rattle.rule.specs.declared.refusal.Refusal.{Refusal}
+use Rattle.rule.specs.declared.refusal.Refusal.TheVariants as the-refusal
+use Rattle.rule.specs.Reply.{Reply, accepted, refused, reply, leaves}
 use Rattle.theory.proofs.Tests.{and_split}
+
+-- a refusal has a number of the table's
+pub positive : (k : Refusal) → refusal_number k ≡ 0 → ⊥
+positive the-refusal.FlagCount e = absurd (omega arith)
+positive the-refusal.TableLength e = absurd (omega arith)
+positive the-refusal.TableByte e = absurd (omega arith)
+positive the-refusal.OrderPlaces e = absurd (omega arith)
+positive the-refusal.CellsLength e = absurd (omega arith)
+positive the-refusal.Records e = absurd (omega arith)
+positive the-refusal.NodeNumber e = absurd (omega arith)
+positive the-refusal.WorkspaceLength e = absurd (omega arith)
+positive the-refusal.Argument e = absurd (omega arith)
+positive the-refusal.NoRoom e = absurd (omega arith)
+positive the-refusal.FileEnd e = absurd (omega arith)
+positive the-refusal.FileMap e = absurd (omega arith)
+positive the-refusal.FileLabel e = absurd (omega arith)
+positive the-refusal.ForbiddenRow e = absurd (omega arith)
+positive the-refusal.NoSuchRow e = absurd (omega arith)
+positive the-refusal.LogLength e = absurd (omega arith)
 
 -- the number of each row is one of the table's, not 0
 abbrev pub numbered : List Row → Bool
@@ -104,13 +125,6 @@ refused-reply (suc k) values d = refl
 pub refused_kept : {A : Type 0} (k : ℕ) (new old : A) → (k ≡ 0 → ⊥) → old ≡ leaves k new old
 refused_kept zero new old d = absurd (d refl)
 refused_kept (suc k) new old d = refl
-
-pub run_refused : {k j : ℕ} (run values bytes : List ℕ) → k ≡ j → (k ≡ 0 → ⊥) → WritesRun j run values bytes (refused k (map (λ v. 0) values)) bytes
-run_refused {k} run values bytes e d =
-    record {
-      answer = refused-reply k values d ∙ ap (λ (i : ℕ). reply i values) e;
-      bytes_are = refused_kept k (run ++ drop (length run) bytes) bytes d ∙ ap (λ (i : ℕ). leaves i (run ++ drop (length run) bytes) bytes) e;
-    }
 
 -- a reply tells the number that it came of, and the values
 abbrev is_refused : Reply → ℕ

@@ -1,19 +1,18 @@
--- What a loop over a list, over the rest of a list or over the numbers below n learns of a test of each: it fails where one fails. (That it holds where all
--- hold is `at_each` and `below_each` of Tests.antt, and `drop_holds` here.) And what a loop that counts those that pass has counted.
+-- What a loop over a list or over the numbers below n learns of a test of each: it fails where one fails. (That it holds where all hold is `at_each` and
+-- `below_each` of Tests.antt.) And what a loop that counts those that pass has counted.
 -- Assumes nothing.
 use mathlib.Core.Path.{◌≡◌, refl, sym, ap, ◌∙◌}
 use mathlib.Core.Bool.{Bool, true, false, true≢false}
 use mathlib.Core.List.{List, [], ◌∷◌}
-use Prim.Native.Nat.{ℕ, zero, suc, ◌+◌, ◌-◌, ◌≤◌, ◌<◌}
+use Prim.Native.Nat.{ℕ, zero, suc, ◌+◌, ◌<◌}
 use native.Mathlib.Nat.{le_of_suc-le-suc, not-suc-le-zero}
 use native.Mathlib.Omega.{arith}
-use lib.ListN.{length, get_or, drop, length-drop}
-use lib.Seq.{get_or-drop}
+use lib.ListN.{length, get_or}
 use Rattle.rule.specs.Bits.{from, below}
 use Rattle.rule.specs.Tests.{each, add_if, keep}
 use Rattle.theory.proofs.Member.{In, head, tail}
 use Rattle.theory.proofs.Bits.{in_below}
-use Rattle.theory.proofs.Tests.{each_in, at_each}
+use Rattle.theory.proofs.Tests.{each_in}
 
 pub at_in : {A : Type 0} (none : A) (l : List A) (i : ℕ) → i < length l → In (get_or l i none) l
 at_in none [] i h = absurd (not-suc-le-zero h)
@@ -33,16 +32,6 @@ module _ (p : ℕ → Bool) where
 
   pub fails_below : (n k : ℕ) → k < n → p k ≡ false → each p (below n) ≡ false
   fails_below n k h f = fails_in (below n) (in_below h) f
-
-  pub drop_fails : (a : ℕ) (l : List ℕ) (i : ℕ) → a ≤ i → i < length l → p (get_or l i 0) ≡ false → each p (drop a l) ≡ false
-  drop_fails a l i h k f =
-      let e : a + (i - a) ≡ i = omega arith in
-      fails_at (drop a l) (i - a) (simp length-drop (omega arith)) (ap p (get_or-drop a l (i - a) 0 ∙ ap (λ (x : ℕ). get_or l x 0) e) ∙ f)
-
-  pub drop_holds : (a : ℕ) (l : List ℕ) → ((k : ℕ) → a ≤ k → k < length l → p (get_or l k 0) ≡ true) → each p (drop a l) ≡ true
-  drop_holds a l f =
-      at_each p (drop a l) 0
-      (λ i h. let q : i < length l - a = simp length-drop at h in ap p (get_or-drop a l i 0) ∙ f (a + i) (omega arith) (omega arith))
 
 -- ---- a count over the numbers below k
 

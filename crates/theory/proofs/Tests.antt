@@ -10,10 +10,12 @@ use native.Mathlib.Omega.{arith}
 use borrow.Author.Tests.{eqb-true, eq-eqb}
 use lib.Dec.{eqb}
 use lib.ListN.{length, get_or}
+use Rattle.std.specs.List.{list_all, count_by, range_with_len}
+use Rattle.std.proofs.lemmas.List.Recursion.{is_count_by}
 use Rattle.rule.specs.Bits.{from, below}
 use Rattle.rule.specs.Tests.{each, add_if, keep, same, among}
 use Rattle.theory.proofs.Member.{In, head, tail, not-nil, cases_cons}
-use Rattle.theory.proofs.Bits.{length_from, below_in, in_below}
+use Rattle.theory.proofs.Bits.{range_is, length_from, below_in, in_below}
 
 -- ---- a test and the fact that it tests
 
@@ -111,6 +113,20 @@ module _ {A : Type 0} (p : A → Bool) where
   at_each [] d f = refl
   at_each (x ∷ l) d f = and_join (f 0 (omega arith)) (at_each l d (λ k h. f (suc k) (suc-le-suc h)))
 
+  -- the library's word
+  pub list_all_is : (l : List A) → list_all p l ≡ each p l
+  unfolding each
+  list_all_is [] = refl
+  list_all_is (x ∷ l) = rw (list_all_is l)
+
+  pub count_by_is : (l : List A) → count_by p l ≡ length (keep p l)
+  unfolding keep
+  count_by_is l = sym (is_count_by (λ xs. length (keep p xs)) p refl (λ x xs. go x xs (p x)) l)
+    where
+      go : (x : A) (xs : List A) (b : Bool) → length (add_if b x (keep p xs)) ≡ cond b (1 + length (keep p xs)) (length (keep p xs))
+      go x xs true = omega arith
+      go x xs false = refl
+
   -- what is kept is a member that passes
   pub keep_in : {x : A} (l : List A) → In x (keep p l) → In x l × (p x ≡ true)
   unfolding keep
@@ -186,3 +202,7 @@ each_below p n e k h = each_in p (below n) e (in_below h)
 
 pub below_each : (p : ℕ → Bool) (n : ℕ) → ((k : ℕ) → k < n → p k ≡ true) → each p (below n) ≡ true
 below_each p n f = in_each_lem p (below n) (λ k m. f k (below_in m))
+
+-- of the numbers below n
+pub list_all_below : (p : ℕ → Bool) (n : ℕ) → list_all p (range_with_len 0 n) ≡ each p (below n)
+list_all_below p n = list_all_is p (range_with_len 0 n) ∙ ap (each p) (range_is 0 n)

@@ -20,8 +20,7 @@ use Rattle.theory.specs.Growth.{Grows}
 use Rattle.theory.proofs.Canonical.{mix, mix_cofactors, canonical}
 use Rattle.theory.proofs.Growth.{grows_more, grows_within, older, older_level}
 use Rattle.unique.specs.declared.node.Grown.{Grown}
-use Rattle.unique.specs.declared.node.Found.{Found}
-use Rattle.unique.specs.declared.node.Found.TheVariants.{At, Full}
+use Rattle.std.specs.Prelude.{Option, Some, None}
 use Rattle.unique.specs.Node.{found_reply, MakesNode, MakesAbove, above, none}
 use Rattle.unique.specs.Search.{Named, Lacks, FoundAs, Grew}
 use Rattle.unique.proofs.Search.{Branch, made}
@@ -30,24 +29,24 @@ use Rattle.unique.proofs.Search.{Branch, made}
 
 module _ {n used l : ℕ} {order t c d : List ℕ} {r : Grown} where
   -- the node that was found
-  pub named : {goal : List (List ℕ)} {m : ℕ} → r.found ≡ At m → Grew n order goal l t c used r d → Named n order l t d r.used m
-  named {goal} e x = subst (λ (f : Found). FoundAs f n order goal l t d r.used) e x.is
+  pub named : {goal : List (List ℕ)} {m : ℕ} → r.found ≡ Some m → Grew n order goal l t c used r d → Named n order l t d r.used m
+  named {goal} e x = subst (λ (f : Option ℕ). FoundAs f n order goal l t d r.used) e x.is
 
   -- or what is lacking
-  pub lacks : {goal : List (List ℕ)} → r.found ≡ Full → Grew n order goal l t c used r d → Lacks n goal d r.used
-  lacks {goal} e x = subst (λ (f : Found). FoundAs f n order goal l t d r.used) e x.is
+  pub lacks : {goal : List (List ℕ)} → r.found ≡ None → Grew n order goal l t c used r d → Lacks n goal d r.used
+  lacks {goal} e x = subst (λ (f : Option ℕ). FoundAs f n order goal l t d r.used) e x.is
 
   -- and is then lacking for any rule with that goal
-  no_room : {goal : List (List ℕ)} → r.found ≡ Full → Grew n order goal l t c used r d → {k : ℕ} {u : List ℕ} → Grew n order goal k u c used r d
-  no_room {goal} e x {k} {u} = record { grows = x.grows; is = subst (λ (f : Found). FoundAs f n order goal k u d r.used) (sym e) (lacks e x) }
+  no_room : {goal : List (List ℕ)} → r.found ≡ None → Grew n order goal l t c used r d → {k : ℕ} {u : List ℕ} → Grew n order goal k u c used r d
+  no_room {goal} e x {k} {u} = record { grows = x.grows; is = subst (λ (f : Option ℕ). FoundAs f n order goal k u d r.used) (sym e) (lacks e x) }
 
   -- a larger goal
   pub grew_within : {goal goal' : List (List ℕ)} → Within goal goal' → Grew n order goal l t c used r d → Grew n order goal' l t c used r d
   grew_within {goal} {goal'} w x = record { grows = grows_within w x.grows; is = go r.found x.is }
     where
-      go : (f : Found) → FoundAs f n order goal l t d r.used → FoundAs f n order goal' l t d r.used
-      go (At m) y = y
-      go Full y = record { full = y.full; missing = y.missing; called = w _ y.called; absent = y.absent }
+      go : (f : Option ℕ) → FoundAs f n order goal l t d r.used → FoundAs f n order goal' l t d r.used
+      go (Some m) y = y
+      go None y = record { full = y.full; missing = y.missing; called = w _ y.called; absent = y.absent }
 
   grew_more : {goal : List (List ℕ)} {more : ℕ} {e : List ℕ} → Grows n order goal e more c used → Grew n order goal l t c used r d → Grew n order goal l t e more r d
   grew_more w x = record { grows = grows_more w x.grows; is = x.is }
@@ -67,7 +66,7 @@ module _ {n at v : ℕ} {order t : List ℕ} (s : Split n order at v t) where
   branch_within b h e = rw e (nodes_cofactor s.is_order t s.rows s.ignores v s.flag s.place b h)
 
   -- no room in the low branch is no room for the rule
-  pub no_room_low : {used l : ℕ} {u c d : List ℕ} {p : Grown} → u ≡ cofactor v 0 t → p.found ≡ Full → Grew n order (nodes_of (flags n order) u) l u c used p d
+  pub no_room_low : {used l : ℕ} {u c d : List ℕ} {p : Grown} → u ≡ cofactor v 0 t → p.found ≡ None → Grew n order (nodes_of (flags n order) u) l u c used p d
       → Grew n order (nodes_of (flags n order) t) at t c used p d
   no_room_low e f a = no_room f (grew_within (branch_within 0 (omega arith) e) a)
 
@@ -77,10 +76,10 @@ module _ {n at v : ℕ} {order t : List ℕ} (s : Split n order at v t) where
     grown_low = grows_within (branch_within 0 (omega arith) low_is) a.grows
 
     -- and so is no room in the high one
-    no_room_high : q.found ≡ Full → Grew n order (nodes_of (flags n order) t) at t c used q e
+    no_room_high : q.found ≡ None → Grew n order (nodes_of (flags n order) t) at t c used q e
     no_room_high f = no_room f (grew_more grown_low (grew_within (branch_within 1 (omega arith) high_is) b))
 
-    module _ {low high : ℕ} (low_later : at < k) (high_later : at < l) (at_low : p.found ≡ At low) (at_high : q.found ≡ At high) where
+    module _ {low high : ℕ} (low_later : at < k) (high_later : at < l) (at_low : p.found ≡ Some low) (at_high : q.found ≡ Some high) where
       low_named : Named n order k u d p.used low
       low_named = named at_low a
 
@@ -124,7 +123,7 @@ module _ {n at v : ℕ} {order t : List ℕ} (s : Split n order at v t) where
           (made b.grows.is_sound s.is_order branches (nodes_of (flags n order) t) calls m)))
 
     -- what comes of the low branch's node and of what was found for the high one
-    pub both_branches : {low : ℕ} → at < k → at < l → p.found ≡ At low → {r : Grown} {f : List ℕ} → MakesAbove e v low q r f
+    pub both_branches : {low : ℕ} → at < k → at < l → p.found ≡ Some low → {r : Grown} {f : List ℕ} → MakesAbove e v low q r f
         → Grew n order (nodes_of (flags n order) t) at t c used r f
     both_branches x y at_low (above at_high m) = both_found x y at_low at_high m
     both_branches x y at_low (none h) = no_room_high h

@@ -13,7 +13,7 @@ use Rattle.theory.specs.Level.{level_of}
 use Rattle.theory.specs.Shape.{Shaped}
 use Rattle.theory.proofs.Walks.{flag_kept, low_kept, high_kept}
 use Rattle.theory.proofs.Canonical.{level_record}
-use Rattle.record_index.specs.Find.{None}
+use Rattle.record_index.specs.Find.{None as NoRecord}
 
 -- a record that the order and the older records allow
 pub record Allowed (n : ℕ) (order c : List ℕ) (used v low high : ℕ) : Type 0 where
@@ -23,7 +23,7 @@ pub record Allowed (n : ℕ) (order c : List ℕ) (used v low high : ℕ) : Type
   pub high_old : high ≤ used + 1
   pub low_later : level (flags n order) v < level_of n order c low
   pub high_later : level (flags n order) v < level_of n order c high
-  pub new : None c used v low high
+  pub new : NoRecord c used v low high
 
 -- what holds of an older record and of the new one holds of each
 each_record : {used : ℕ} (P : ℕ → Type 0) → ((k : ℕ) → k < used → P k) → P used → (k : ℕ) → k < used + 1 → P k

@@ -7,9 +7,9 @@ use native.Mathlib.Omega.{arith}
 use lib.ListN.{length}
 use Rattle.rule.specs.Order.{flags, level}
 use Rattle.rule.specs.Walk.{table_of}
-use Rattle.rule.specs.Reply.{Reply, accepted, refused, number_of}
+use Rattle.rule.specs.Reply.{Reply, accepted, refused}
 use Rattle.cells.proofs.Record.{put_length}
-use Rattle.record_index.specs.Find.{None}
+use Rattle.record_index.specs.Find.{None as NoRecord}
 use Rattle.theory.proofs.Member.{In, cast}
 use Rattle.theory.proofs.Sets.{Order}
 use Rattle.theory.specs.Growth.{Grows}
@@ -19,8 +19,7 @@ use Rattle.theory.proofs.Walks.{smaller, table_kept, length_table}
 use Rattle.theory.proofs.Canonical.{level_record, mix, mix-same, table_mix, canonical}
 use Rattle.theory.proofs.Growth.{grows_none}
 use Rattle.unique.specs.declared.node.Grown.{Grown}
-use Rattle.unique.specs.declared.node.Found.{Found}
-use Rattle.unique.specs.declared.node.Found.TheVariants.{At, Full}
+use Rattle.std.specs.Prelude.{Option, Some, None}
 use Rattle.unique.specs.Node.{found_reply, MakesNode, child, old, new, full}
 use Rattle.unique.specs.Search.{Named, Grew}
 use Rattle.cells.proofs.Added.{Added, added_put, added_longer}
@@ -28,18 +27,13 @@ use Rattle.unique.proofs.Extend.{Allowed, extended}
 
 -- ---- an answer by its reply
 
-found_at : (x : Found) (m : ℕ) → accepted (m ∷ []) ≡ found_reply x → x ≡ At m
-found_at (At k) m e = ap (λ (r : Reply). At (first r)) (sym e)
-  where
-    first : Reply → ℕ
-    first (accepted []) = 0
-    first (accepted (y ∷ ys)) = y
-    first (refused y ys) = 0
-found_at Full m e = let q : ◌≡◌ {A = ℕ} 0 10 = ap number_of e in absurd (omega arith)
+found_at : (x : Option ℕ) (m : ℕ) → accepted (m ∷ []) ≡ found_reply x → x ≡ Some m
+found_at (Some k) m e = cc
+found_at None m e = cc
 
-found_full : (x : Found) → refused 10 (0 ∷ []) ≡ found_reply x → x ≡ Full
-found_full (At k) e = let q : ◌≡◌ {A = ℕ} 10 0 = ap number_of e in absurd (omega arith)
-found_full Full e = refl
+found_full : (x : Option ℕ) → refused 10 (0 ∷ []) ≡ found_reply x → x ≡ None
+found_full (Some k) e = cc
+found_full None e = refl
 
 -- ---- the node that is made
 
@@ -51,7 +45,7 @@ pub record Branch (n : ℕ) (order c : List ℕ) (used v low high : ℕ) : Type 
   pub low_later : level (flags n order) v < level_of n order c low
   pub high_later : level (flags n order) v < level_of n order c high
 
-allowed : {n used v low high : ℕ} {order c : List ℕ} → Branch n order c used v low high → (low ≡ high → ⊥) → None c used v low high
+allowed : {n used v low high : ℕ} {order c : List ℕ} → Branch n order c used v low high → (low ≡ high → ⊥) → NoRecord c used v low high
     → Allowed n order c used v low high
 allowed b d f =
     record { flag = b.flag; differ = d; low_old = b.low_old; high_old = b.high_old; low_later = b.low_later; high_later = b.high_later; new = f }
@@ -59,7 +53,7 @@ allowed b d f =
 module _ {n used v low high : ℕ} {order c : List ℕ} (s : Shaped n order c used) (o : Order n (flags n order)) (b : Branch n order c used v low high)
     -- where the children differ the goal calls for the joined rule
     (goal : List (List ℕ)) (call : (low ≡ high → ⊥) → In (mix v (table_of n c low) (table_of n c high)) goal) where
-  module _ {d : List ℕ} (differ : low ≡ high → ⊥) (none : None c used v low high) (x : Added c used v low high d) where
+  module _ {d : List ℕ} (differ : low ≡ high → ⊥) (none : NoRecord c used v low high) (x : Added c used v low high d) where
     more : Shaped n order d (used + 1)
     more = extended s (allowed b differ none) x
 
@@ -93,7 +87,7 @@ module _ {n used v low high : ℕ} {order c : List ℕ} (s : Shaped n order c us
         record { node = omega arith; table = added_table; later = omega (arith, level_record n order d used, ap (level (flags n order)) x.flag_is) }
 
   -- each case of the answer
-  answered : (x : Found) {more : ℕ} {p : Reply} {d : List ℕ} → p ≡ found_reply x → MakesNode c used v low high more p d
+  answered : (x : Option ℕ) {more : ℕ} {p : Reply} {d : List ℕ} → p ≡ found_reply x → MakesNode c used v low high more p d
       → Grew n order goal (level (flags n order) v) (mix v (table_of n c low) (table_of n c high)) c used (record { used = more; found = x }) d
   answered x q (child e) =
       rw (found_at x low q)

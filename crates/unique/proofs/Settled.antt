@@ -23,7 +23,7 @@ use Rattle.theory.proofs.Sound.{shape_sound}
 use Rattle.theory.proofs.Growth.{older}
 use Rattle.theory.proofs.Needed.{added_is, needed_least, needed_most, needed_more, made_is}
 use Rattle.unique.specs.declared.node.Grown.{Grown}
-use Rattle.unique.specs.declared.node.Found.TheVariants.{At, Full}
+use Rattle.std.specs.Prelude.{Some, None}
 use Rattle.unique.specs.Search.{Grew}
 use Rattle.unique.proofs.Branches.{named, lacks}
 
@@ -49,7 +49,7 @@ module _ (s : State) {c t d : List ℕ} {r : Grown} (x : Shaped s.n s.places c s
       ext_get_or 0 (take k d) (take k c) (a ∙ sym b)
       (λ i h. get_or-take k d i 0 (omega arith) ∙ g.grows.old i (omega arith) ∙ sym (get_or-take k c i 0 (omega arith)))
 
-  pub settled : {m : ℕ} → r.found ≡ At m → Settled s c t r.used m d
+  pub settled : {m : ℕ} → r.found ≡ Some m → Settled s c t r.used m d
   settled {m} e =
       let a = named e g in
       let kept = older x g.grows in
@@ -74,7 +74,7 @@ module _ (s : State) {c t d : List ℕ} {r : Grown} (x : Shaped s.n s.places c s
         };
       }
 
-  pub unsettled : r.found ≡ Full → Unsettled s c t d
+  pub unsettled : r.found ≡ None → Unsettled s c t d
   unsettled e =
       let a = lacks e g in
       record {

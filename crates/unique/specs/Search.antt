@@ -1,14 +1,12 @@
 -- What a search for a rule's node leaves, in a store of sound cells: the node, or that there is no room. The calls that draw nodes share it.
 -- Assumes nothing.
-use Rattle.std.specs.Prelude.{◌≡◌, ℕ, ◌+◌, ◌≤◌, ◌<◌}
+use Rattle.std.specs.Prelude.{◌≡◌, ℕ, ◌+◌, ◌≤◌, ◌<◌, Option, Some, None}
 use mathlib.Core.List.{List, Memᴰ}
 use Rattle.rule.specs.Cells.{room}
 use Rattle.rule.specs.Walk.{table_of}
 use Rattle.theory.specs.Growth.{Grows}
 use Rattle.theory.specs.Level.{level_of}
 use Rattle.unique.specs.declared.node.Grown.{Grown}
-use Rattle.unique.specs.declared.node.Found.{Found}
-use Rattle.unique.specs.declared.node.Found.TheVariants.{At, Full}
 
 -- node m is rule t, and asks no flag above level l
 pub record Named (n : ℕ) (order : List ℕ) (l : ℕ) (t d : List ℕ) (more m : ℕ) : Type 0 where
@@ -23,9 +21,9 @@ pub record Lacks (n : ℕ) (goal : List (List ℕ)) (d : List ℕ) (more : ℕ) 
   pub called : Memᴰ missing goal
   pub absent : (k : ℕ) → k < more → table_of n d (k + 2) ≡ missing → ⊥
 
-abbrev pub FoundAs : Found → ℕ → List ℕ → List (List ℕ) → ℕ → List ℕ → List ℕ → ℕ → Type 0
-FoundAs (At m) n order goal l t d more = Named n order l t d more m
-FoundAs Full n order goal l t d more = Lacks n goal d more
+abbrev pub FoundAs : Option ℕ → ℕ → List ℕ → List (List ℕ) → ℕ → List ℕ → List ℕ → ℕ → Type 0
+FoundAs (Some m) n order goal l t d more = Named n order l t d more m
+FoundAs None n order goal l t d more = Lacks n goal d more
 
 -- the store has grown towards the goal, and rule t was found or is lacking
 pub record Grew (n : ℕ) (order : List ℕ) (goal : List (List ℕ)) (l : ℕ) (t c : List ℕ) (used : ℕ) (r : Grown) (d : List ℕ) : Type 0 where

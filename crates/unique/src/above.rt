@@ -3,7 +3,7 @@ ghost use Rattle.rule.specs.Cells.{most_records, room};
 ghost use Rattle.record_index.specs.Index.{Indexed};
 ghost use Rattle.unique.specs.Node.{MakesAbove};
 
-use crate::node::{Found, Grown, make};
+use crate::node::{Grown, make};
 
 // The node that asks a flag above a low node and what was found for the high branch, the last step of a recursion over both. No room there is no room here.
 pub fn make_above(
@@ -16,9 +16,8 @@ pub fn make_above(
     requires { (second.used ≤ room cells.old) × (room cells.old ≤ most_records) × Indexed cells.old second.used index.old }
     ensures { MakesAbove cells.old flag low second result cells.new × Indexed cells.new result.used index.new }
 {
-    let higher = second.found;
-    match higher {
-        Found::Full => second,
-        Found::At(high) => make(cells, index, second.used, flag, low, high),
+    match second.found {
+        None => second,
+        Some(high) => make(cells, index, second.used, flag, low, high),
     }
 }

@@ -6,4 +6,4 @@ mod above;
 mod node;
 
 pub use above::make_above;
-pub use node::{Found, Grown, make};
+pub use node::{Grown, make};

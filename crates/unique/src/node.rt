@@ -3,18 +3,11 @@ ghost use Rattle.rule.specs.Cells.{room};
 ghost use Rattle.record_index.specs.Index.{links, Indexed};
 ghost use Rattle.unique.specs.Node.{found_reply, MakesNode};
 
-// What was found of a node: its number, or that there is no room for its record.
-#[derive(Clone, Copy)]
-pub enum Found {
-    At(u16),
-    Full,
-}
-
-// The used records after a search, beside what was found.
+// The used records after a search, beside the number of the node that was found: None where there is no room for its record.
 #[derive(Clone, Copy)]
 pub struct Grown {
     pub used: u16,
-    pub found: Found,
+    pub found: Option<u16>,
 }
 
 // The node that asks a flag and has these two children, which is the child itself where they are one.
@@ -33,26 +26,22 @@ pub fn make(
     if low == high {
         return Grown {
             used,
-            found: Found::At(low),
+            found: Some(low),
         };
     }
-    let k = record_index::find(cells, index, used, flag, low, high);
-    if k < used {
+    if let Some(k) = record_index::find(cells, index, used, flag, low, high) {
         return Grown {
             used,
-            found: Found::At(k + 2),
+            found: Some(k + 2),
         };
     }
     if cells::room(cells) <= used as usize {
-        return Grown {
-            used,
-            found: Found::Full,
-        };
+        return Grown { used, found: None };
     }
     cells::put(cells, used, flag, low, high);
     record_index::enter(cells, index, used);
     Grown {
         used: used + 1,
-        found: Found::At(used + 2),
+        found: Some(used + 2),
     }
 }

@@ -10,7 +10,6 @@ use lib.ListN.{length, take}
 use lib.Pow.{pow_pos}
 use Rattle.rule.specs.Table.{fit_length}
 use Rattle.rule.specs.Order.{flags}
-use Rattle.rule.specs.Sets.{flag_set}
 use Rattle.rule.specs.Walk.{walk, flags_asked, walk_values, table_of}
 use Rattle.rule.specs.Pass.{pass_nodes}
 use Rattle.rule.specs.Refusals.{Row, refusal, node, row_rows, walk_rows, tabulate_rows}
@@ -21,7 +20,7 @@ use Rattle.theory.proofs.Sound.{sound_shape}
 use Rattle.theory.proofs.Orders.{fit_order_is}
 use Rattle.theory.proofs.Walks.{smaller, walk_lt}
 use Rattle.theory.proofs.Asked.{asked_most}
-use Rattle.checking.proofs.Refused.{cell_rows, Taken}
+use Rattle.checking.proofs.Refused.{cell_rows, Taken, rows_passed}
 use Rattle.checking.proofs.Parts.{fit_room, sound_room}
 use Rattle.tabulating.specs.Fill.{Filling, filled}
 use Rattle.tabulating.proofs.Halves.{filled_all}
@@ -31,7 +30,13 @@ use Rattle.rule.specs.Calls.{Walks, Tabulates}
 
 -- ---- cells that were taken
 
-module _ {n used : ℕ} {o c : List ℕ} (t : Taken n o c used) where
+module _ (n : ℕ) (o c : List ℕ) (used : ℕ) (passed : 0 ≡ refusal (cell_rows n o c used)) where
+  t : Taken n o c used
+  t = rows_passed n o c used passed
+
+  pub few : n ≤ 10
+  few = t.few
+
   pub few_used : used + 1 < 2 ^ 16
   few_used = omega (arith, fit_room c t.lent, sound_room n o c used t.is_sound)
 
@@ -59,45 +64,23 @@ module _ (n : ℕ) (o c : List ℕ) (used m row : ℕ) where
   refused_by pass {k} e d =
       record { answer = refused-reply k (walk_values c m row) d ∙ ap (λ i. reply i (walk_values c m row)) e; bytes_are = refl }
 
-  pub walk_refused : (pass : Option ℕ) {k : ℕ} → k ≡ refusal (cell_rows n o c used) → (k ≡ 0 → ⊥)
-      → Walks n o c used m pass row (refused k (0 ∷ 0 ∷ 0 ∷ []))
-  walk_refused pass e d = refused_by pass (e ∙ refused-more (cell_rows n o c used) (behind_cells pass) (λ f. d (e ∙ f))) d
-
   -- the pass rule's rows are those of the node that is asked
   by_node : (pass : Option ℕ) → refusal (walk_rows n o c used m (some (pass_node pass)) row) ≡ refusal (walk_rows n o c used m pass row)
   by_node none = pass_yes n used m row o c
   by_node (some p) = refl
 
-  module _ (t : Taken n o c used) (pass : Option ℕ) {p : ℕ} (e : p ≡ pass_node pass) where
+  module _ (passed : 0 ≡ refusal (cell_rows n o c used)) (pass : Option ℕ) {p : ℕ} (e : p ≡ pass_node pass) where
     own : refusal (behind_cells (some p)) ≡ refusal (walk_rows n o c used m pass row)
     own =
-        passed_more (cell_rows n o c used) (behind_cells (some p)) refl (rw (le-ltb _ _ t.few, t.ordered, t.lent, t.is_sound))
+        passed_more (cell_rows n o c used) (behind_cells (some p)) refl (sym passed)
         ∙ ap (λ (i : ℕ). refusal (walk_rows n o c used m (some i) row)) e
         ∙ by_node pass
 
-    pub walk_far : used + 1 < m → Walks n o c used m pass row (refused 7 (0 ∷ 0 ∷ 0 ∷ []))
-    walk_far h = let z : 7 ≡ refusal (behind_cells (some p)) = rw (lt-ltb (used + 1) m h) in refused_by pass (z ∙ own) (omega arith)
-
-    module _ (h : m ≤ used + 1) where
-      pub pass_far : used + 1 < p → Walks n o c used m pass row (refused 7 (0 ∷ 0 ∷ 0 ∷ []))
-      pass_far g =
-          let z : 7 ≡ refusal (behind_cells (some p)) = rw (le-ltb (used + 1) m h, lt-ltb (used + 1) p g) in refused_by pass (z ∙ own) (omega arith)
-
-      module _ (g : p ≤ used + 1) where
-        row_own : refusal (row_rows n c (some p) row) ≡ refusal (walk_rows n o c used m pass row)
-        row_own =
-            let z : refusal (row_rows n c (some p) row) ≡ refusal (behind_cells (some p)) =
-            rw (le-ltb (used + 1) m h, le-ltb (used + 1) p g) in
-            z ∙ own
-
-        pub row_refused : {k : ℕ} → k ≡ refusal (row_rows n c (some p) row) → (k ≡ 0 → ⊥)
-            → Walks n o c used m pass row (refused k (0 ∷ 0 ∷ 0 ∷ []))
-        row_refused f d = refused_by pass (f ∙ row_own) d
-
-        pub walk_says : {k : ℕ} → k ≡ refusal (row_rows n c (some p) row) → k ≡ 0 → {x set count : ℕ}
-            → x ≡ walk c m row → set ≡ flag_set (flags_asked c m row) → count ≡ length (flags_asked c m row)
-            → Walks n o c used m pass row (accepted (x ∷ set ∷ count ∷ []))
-        walk_says f z ex es ec = record { answer = rw (sym row_own ∙ sym f ∙ z, ex, es, ec); bytes_are = refl }
+    pub row_refused : m ≤ used + 1 → p ≤ used + 1 → {k : ℕ} → k ≡ refusal (row_rows n c (some p) row) → (k ≡ 0 → ⊥)
+        → Walks n o c used m pass row (refused k (0 ∷ 0 ∷ 0 ∷ []))
+    row_refused h g f d =
+        let z : refusal (row_rows n c (some p) row) ≡ refusal (behind_cells (some p)) = rw (le-ltb (used + 1) m h, le-ltb (used + 1) p g) in
+        refused_by pass (f ∙ z ∙ own) d
 
 -- ---- tabulate
 
@@ -106,9 +89,6 @@ module _ (n : ℕ) (o c : List ℕ) (used m : ℕ) (bytes : List ℕ) where
   under : (k : ℕ) → (k ≡ 0 → ⊥) → k ≡ refusal (tabulate_rows n o c used m bytes) → Tabulates n o c used m bytes (refused k []) bytes
   under zero d e = absurd (d refl)
   under (suc k) d e = record { answer = ap (λ i. reply i []) e; bytes_are = ap (λ i. leaves i (table_of n c m) bytes) e }
-
-  pub tabulate_many : 10 < n → Tabulates n o c used m bytes (refused 1 []) bytes
-  tabulate_many h = under 1 (omega arith) (rw (lt-ltb 10 n h))
 
   pub tabulate_long : n ≤ 10 → (length bytes ≡ 2 ^ n → ⊥) → Tabulates n o c used m bytes (refused 2 []) bytes
   unfolding fit_length
@@ -123,17 +103,20 @@ module _ (n : ℕ) (o c : List ℕ) (used m : ℕ) (bytes : List ℕ) where
     pub tabulate_refused : {k : ℕ} → k ≡ refusal (cell_rows n o c used) → (k ≡ 0 → ⊥) → Tabulates n o c used m bytes (refused k []) bytes
     tabulate_refused {k} e d = under k d (e ∙ refused-more (cell_rows n o c used) (node used m ∷ []) (λ f. d (e ∙ f)) ∙ rest)
 
-    module _ (t : Taken n o c used) where
+    module _ (passed : 0 ≡ refusal (cell_rows n o c used)) where
+      own_row : refusal (node used m ∷ []) ≡ refusal (tabulate_rows n o c used m bytes)
+      own_row = passed_more (cell_rows n o c used) (node used m ∷ []) refl (sym passed) ∙ rest
+
       pub tabulate_far : used + 1 < m → Tabulates n o c used m bytes (refused 7 []) bytes
       tabulate_far g =
-          under 7 (omega arith) (sym (rw (le-ltb _ _ t.few, t.ordered, t.lent, t.is_sound, lt-ltb (used + 1) m g)) ∙ rest)
+          let z : 7 ≡ refusal (node used m ∷ []) = rw (lt-ltb (used + 1) m g) in under 7 (omega arith) (z ∙ own_row)
 
       pub tabulate_start : m ≤ used + 1 → Filling n o 0 0 c used m bytes
       tabulate_start g =
           record {
             few = h;
-            order_fits = t.ordered;
-            is_sound = sound_shape n o c used t.is_sound;
+            order_fits = (rows_passed n o c used passed).ordered;
+            is_sound = sound_shape n o c used (rows_passed n o c used passed).is_sound;
             row_fits = pow_pos n;
             node = g;
             later = omega arith;
@@ -143,6 +126,5 @@ module _ (n : ℕ) (o c : List ℕ) (used m : ℕ) (bytes : List ℕ) where
       pub tabulate_done : m ≤ used + 1 → {after : List ℕ} → after ≡ filled n (take 0 (flags n o)) 0 c m bytes
           → Tabulates n o c used m bytes (accepted []) after
       tabulate_done g e =
-          let z : refusal (tabulate_rows n o c used m bytes) ≡ 0 =
-          sym rest ∙ rw (le-ltb _ _ t.few, t.ordered, t.lent, t.is_sound, le-ltb (used + 1) m g) in
+          let z : refusal (tabulate_rows n o c used m bytes) ≡ 0 = sym own_row ∙ rw (le-ltb (used + 1) m g) in
           record { answer = rw z; bytes_are = rw z (e ∙ filled_all n 0 c m bytes) }

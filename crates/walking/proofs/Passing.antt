@@ -3,16 +3,13 @@
 use mathlib.Core.Path.{◌≡◌, sym, ◌∙◌}
 use mathlib.Core.List.{List}
 use mathlib.Core.Option.{some}
-use Prim.Native.Nat.{ℕ, ◌^◌, ◌≤◌, ◌<◌}
-use borrow.Author.Tests.{le-leb, lt-leb, eq-eqb, ne_eqb}
+use Prim.Native.Nat.{ℕ, ◌^◌, ◌<◌}
+use borrow.Author.Tests.{lt-leb, eq-eqb, ne_eqb}
 use Rattle.rule.specs.Walk.{walk}
 use Rattle.rule.specs.Refusals.{refusal, row_rows}
 use Rattle.theory.proofs.Walks.{table_row}
 
 module _ (n : ℕ) (c : List ℕ) (p row : ℕ) where
-  pub no_row : 2 ^ n ≤ row → 9 ≡ refusal (row_rows n c (some p) row)
-  no_row l = rw (le-leb (2 ^ n) row l)
-
   module _ (l : row < 2 ^ n) {end : ℕ} (e : end ≡ walk c p row) where
     pub row_forbidden : end ≡ 0 → 14 ≡ refusal (row_rows n c (some p) row)
     row_forbidden z = rw (lt-leb (2 ^ n) row l, eq-eqb _ 0 (table_row n c p row l ∙ sym e ∙ z))

@@ -4,12 +4,11 @@ use mathlib.Core.Path.{◌≡◌, refl, sym, ap, ◌∙◌}
 use mathlib.Core.List.{List, [], ◌∷◌, ◌++◌, append-nil}
 use Prim.Native.Nat.{ℕ, ◌+◌, ◌-◌, ◌≤◌, ◌<◌}
 use native.Mathlib.Omega.{arith}
-use borrow.Author.Tests.{eq-eqb, ne_eqb}
 use lib.ListN.{length, length-append}
 use lib.Seq.{append_snoc}
 use Rattle.rule.specs.Bits.{bit, set_bit}
 use Rattle.rule.specs.Sets.{flag_set}
-use Rattle.rule.specs.Cells.{flag_at, low_at, high_at}
+use Rattle.rule.specs.Cells.{flag_at}
 use Rattle.rule.specs.Walk.{step, walk, flags_asked}
 use Rattle.theory.specs.Child.{child_at}
 use Rattle.theory.proofs.Bits.{set_bit_lt}
@@ -17,14 +16,6 @@ use Rattle.theory.proofs.FlagSet.{set_snoc}
 use Rattle.theory.proofs.Walks.{step-child, step_is, walk_end, walk_record}
 use Rattle.theory.proofs.Asked.{asked_end, asked_record, asked_few}
 use Rattle.walking.specs.Walk.{Walkable}
-
--- the child of record k that was read for a value of its flag
-module _ (c : List ℕ) (k value : ℕ) {x : ℕ} where
-  pub child_low : value ≡ 0 → x ≡ low_at c k → x ≡ child_at c k value
-  child_low z e = rw (eq-eqb value 0 z) e
-
-  pub child_high : (value ≡ 0 → ⊥) → x ≡ high_at c k → x ≡ child_at c k value
-  child_high d e = rw (ne_eqb value 0 d) e
 
 -- a walk from `node` has come to node m
 pub record Underway (c : List ℕ) (node row m asked count : ℕ) : Type 0 where

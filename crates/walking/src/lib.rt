@@ -7,5 +7,5 @@ mod pass;
 mod steps;
 
 pub use call::{tabulate, walk};
-pub use pass::{pass_node, row_refusal};
+pub use pass::{pass_node, test_row};
 pub use steps::{Descent, descend};

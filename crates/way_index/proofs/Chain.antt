@@ -1,11 +1,11 @@
 -- The laws of the index: the chain of one hash passes every first way that can have the codes looked for, and one way more is entered by a link and a head.
 -- Assumes nothing.
-use mathlib.Core.Path.{◌≡◌, refl, sym, ap₂, ◌∙◌}
+use mathlib.Core.Path.{◌≡◌, refl, sym, ◌∙◌}
 use mathlib.Core.Logic.{◌⊎◌, inl, inr, ⊎_elim}
 use mathlib.Core.List.{List}
 use Prim.Native.Nat.{ℕ, zero, suc, ◌+◌, ◌≤◌, ◌<◌}
 use native.Mathlib.Nat.{eq-or-lt_of_le, le_refl}
-use native.Mathlib.Decide.{ℕ_discrete, dec_lt}
+use native.Mathlib.Decide.{ℕ_discrete}
 use native.Mathlib.Omega.{arith}
 use borrow.Author.Count.{below_more}
 use lib.ListN.{get_or, set, replicate, length-set, length-replicate, get_or-replicate}
@@ -39,9 +39,6 @@ module _ (s : List ℕ) (p : ℕ) where
       go (inr f) (yes e) = inl (k, le_refl _, e, λ j h q. f j h (q.0 ∙ e.0, q.1 ∙ e.1))
       go (inr f) (no d) = inr (λ j h q. ⊎_elim (λ (x : j ≡ k). d (rw x at q)) (λ (x : j < k). f j x q) (eq-or-lt_of_le (omega arith)))
 
-  same_hash : (i j : ℕ) → Same s p i j → hash_at s p i ≡ hash_at s p j
-  same_hash i j e = ap₂ hash e.0 e.1
-
   -- from way `at` on no first way has the codes of i, and the one before it has their hash
   pub record Searched (i at : ℕ) : Type 0 where
     pub within : at ≤ i
@@ -69,14 +66,6 @@ module _ {s : List ℕ} {p : ℕ} where
         hits = x.hits;
         above = λ j a b f e.
             ⊎_elim (λ (q : j ≡ i). d (rw q at f) (rw q at e)) (λ (q : j < i). x.above j a q f e) (eq-or-lt_of_le (omega arith));
-      }
-
-  pub index_passed : {i : ℕ} {index : List ℕ} → (New s p i → ⊥) → Indexed s p i index → Indexed s p (i + 1) index
-  index_passed {i} d x =
-      record {
-        lent = x.lent;
-        head = λ h l. last_passed (λ f e. d f) (x.head h l);
-        link = λ k h f. ⊎_elim (λ (q : k ≡ i). absurd (d (rw q at f))) (λ (q : k < i). x.link k q f) (eq-or-lt_of_le (omega arith));
       }
 
   -- the index with way i entered
@@ -133,28 +122,6 @@ module _ {s : List ℕ} {p : ℕ} where
 
   -- ---- a search
 
-  pub searched_first : {i h low high : ℕ} {index : List ℕ} → Indexed s p i index → low ≡ code_at s p i 0 → high ≡ code_at s p i 1 → h ≡ hash low high
-      → Searched s p i (get_or index h 0)
-  searched_first {i} x a b e =
-      let l = x.head (hash_at s p i) (hash_lt _ _) in
-      rw (e, a, b) (record { within = l.within; hits = l.hits; above = λ j g k f q. l.above j g k f (same_hash s p j i q) })
-
-  pub searched_next : {i at k next : ℕ} → Searched s p i at → at ≡ k + 1 → (Same s p k i → ⊥) → Last s p (hash_at s p k) k next → Searched s p i next
-  searched_next {i} {at} {k} r e d l =
-      let own : hash_at s p k ≡ hash_at s p i = (r.hits k e).1 in
-      record {
-        within = omega (arith, r.within, l.within);
-        hits = λ j q. let x = l.hits j q in (x.0, x.1 ∙ own);
-        above = λ j g h f q.
-            elim (dec_lt j k) [
-              | yes m ↦ l.above j g m f (same_hash s p j i q ∙ sym own)
-              | no m ↦ ⊎_elim (λ (z : k ≡ j). d (rw z q)) (λ (z : k < j). r.above j (omega arith) h f q) (eq-or-lt_of_le (omega arith))
-            ];
-      }
-
-  pub searched_found : {i at k : ℕ} → Searched s p i at → at ≡ k + 1 → Same s p k i → First s p i k
-  searched_found {k = k} r e q = record { within = omega (arith, r.within); same = q; new = (r.hits k e).0 }
-
   pub searched_none : {i at : ℕ} → Searched s p i at → at ≤ 0 → First s p i i
   searched_none {i} r e =
       record {
@@ -162,13 +129,3 @@ module _ {s : List ℕ} {p : ℕ} where
         same = (refl, refl);
         new = elim (search_below s p i i) [ inl (j, h, q, f) ↦ absurd (r.above j (omega arith) h f q) | inr f ↦ f ];
       }
-
-  -- ---- the first way found
-
-  -- a way that has an earlier one with its codes is not new
-  pub first_old : {i r : ℕ} → First s p i r → r < i → New s p i → ⊥
-  first_old f h new = new _ h f.same
-
-  -- and one that has none is
-  pub first_own : {i r : ℕ} → First s p i r → i ≤ r → New s p i
-  first_own {i} {r} f h = let e : r ≡ i = omega (arith, f.within) in rw (← e) f.new

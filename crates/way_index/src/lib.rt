@@ -3,10 +3,9 @@
 #![tactic(auto)]
 
 ghost use Rattle.std.specs.Prelude.{◌≡◌, ◌+◌, ◌*◌, ◌<◌, length};
-ghost use Rattle.ways.specs.Ways.{Foldable};
 ghost use Rattle.way_index.specs.Index.{hash, heads, New, First, Indexed};
 
-use ways::code_at;
+use ways::Halves;
 
 // How many hashes there are.
 const HEADS: usize = 1024;
@@ -28,17 +27,17 @@ fn hash(low: u16, high: u16) -> usize
 }
 
 // The first way with the codes of way i.
-fn find(source: &[u16], p: u16, index: &[u16; INDEX], i: u16) -> u16
-    requires { Foldable source.now p × (i * 2 < length source.now) × Indexed source.now p i index.now }
-    ensures { First source.now p i result }
+fn find(halves: Halves, index: &[u16; INDEX], i: u16) -> u16
+    requires { (i * 2 < length halves.source.now) × Indexed halves.source.now halves.p i index.now }
+    ensures { First halves.entry.source.now halves.entry.p i result }
 {
-    let low = code_at(source, p, i, 0);
-    let high = code_at(source, p, i, 1);
+    let low = halves.code_at(i, 0);
+    let high = halves.code_at(i, 1);
     let mut at = index[hash(low, high)];
     while 0 < at {
         let k = at - 1;
-        if code_at(source, p, k, 0) == low {
-            if code_at(source, p, k, 1) == high {
+        if halves.code_at(k, 0) == low {
+            if halves.code_at(k, 1) == high {
                 return k;
             }
         }
@@ -48,26 +47,26 @@ fn find(source: &[u16], p: u16, index: &[u16; INDEX], i: u16) -> u16
 }
 
 // Enters way i, which is the first with its codes.
-fn enter(source: &[u16], p: u16, index: &mut [u16; INDEX], i: u16)
-    requires { Foldable source.now p × (i * 2 < length source.now) × Indexed source.now p i index.old × New source.now p i }
-    ensures { Indexed source.now p (i + 1) index.new }
+fn enter(halves: Halves, index: &mut [u16; INDEX], i: u16)
+    requires { (i * 2 < length halves.source.now) × Indexed halves.source.now halves.p i index.old × New halves.source.now halves.p i }
+    ensures { Indexed halves.entry.source.now halves.entry.p (i + 1) index.new }
 {
-    let low = code_at(source, p, i, 0);
-    let high = code_at(source, p, i, 1);
+    let low = halves.code_at(i, 0);
+    let high = halves.code_at(i, 1);
     let h = hash(low, high);
     index[HEADS + i as usize] = index[h];
     index[h] = i + 1;
 }
 
 // The first way with the codes of way i, which is entered where it is i itself.
-pub fn find_or_enter(source: &[u16], p: u16, index: &mut [u16; INDEX], i: u16) -> u16
-    requires { Foldable source.now p × (i * 2 < length source.now) × Indexed source.now p i index.old }
-    ensures { First source.now p i result × Indexed source.now p (i + 1) index.new }
+pub fn find_or_enter(halves: Halves, index: &mut [u16; INDEX], i: u16) -> u16
+    requires { (i * 2 < length halves.source.now) × Indexed halves.source.now halves.p i index.old }
+    ensures { First halves.entry.source.now halves.entry.p i result × Indexed halves.entry.source.now halves.entry.p (i + 1) index.new }
 {
-    let first = find(source, p, index, i);
+    let first = find(halves, index, i);
     if first < i {
         return first;
     }
-    enter(source, p, index, i);
+    enter(halves, index, i);
     first
 }

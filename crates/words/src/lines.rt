@@ -1,5 +1,5 @@
 // The lines of standard input, one after the other, by way of a lent buffer that a line and its end must fit.
-ghost use Rattle.std.specs.Prelude.{◌≡◌, ◌-◌, ◌≤◌, ◌<◌, length};
+ghost use Rattle.std.specs.Prelude.{◌≡◌, ◌-◌, ◌≤◌, ◌<◌, IfSome, length};
 ghost use Rattle.words.specs.Held.{Held};
 
 use crate::print;
@@ -8,10 +8,10 @@ use crate::read::line_end;
 // Standard input, by its number.
 const STDIN_FILENO: i32 = 0;
 
-// A line in the buffer, or that there is none.
+// A line in the buffer.
 #[derive(Clone, Copy)]
 pub struct Line {
-    // The lines that may yet be asked for, this one among them: 0 where there is no line. A loop over the lines ends because they get fewer.
+    // The lines that may yet be asked for, this one among them. A loop over the lines ends because they get fewer.
     pub left: u64,
     // Where the line starts and ends.
     pub start: usize,
@@ -20,24 +20,10 @@ pub struct Line {
     pub filled: usize,
 }
 
-fn none() -> Line
-    ensures { (result.left ≡ 0) × (result.start ≡ 0) × (result.end ≡ 0) × (result.filled ≡ 0) }
-{
-    Line {
-        left: 0,
-        start: 0,
-        end: 0,
-        filled: 0,
-    }
-}
-
 // Says that there is more than can be read.
-fn too_long() -> Line
-    ensures { (result.left ≡ 0) × (result.start ≡ 0) × (result.end ≡ 0) × (result.filled ≡ 0) }
-{
+fn too_long() {
     print::too_long();
     print::line_end();
-    none()
 }
 
 // The place behind a line and its end.
@@ -57,14 +43,8 @@ fn shift(buffer: &mut [u8], from: usize, to: usize) -> usize
     requires { (from ≤ to) × (to ≤ length buffer.old) }
     ensures { result ≡ to - from }
 {
-    let held = to - from;
-    let mut i = 0;
-    while i < held {
-        let old = from + i;
-        buffer[i] = buffer[old];
-        i += 1;
-    }
-    held
+    buffer.copy_within(from..to, 0);
+    to - from
 }
 
 // Reads on behind the bytes held: how many the buffer has then.
@@ -76,53 +56,66 @@ fn fill(buffer: &mut [u8], held: usize) -> usize
 }
 
 // The line at the front of the buffer, which so many bytes of it are read already.
-fn front(buffer: &mut [u8], held: usize, left: u64) -> Line
+fn front(buffer: &mut [u8], held: usize, left: u64) -> Option<Line>
     requires { held ≤ length buffer.old }
-    ensures { Held result buffer.new × (result.left ≤ left) }
+    ensures { IfSome result (λ found. Held found buffer.new × (found.left ≡ left)) }
 {
     let filled = fill(buffer, held);
     if filled == 0 {
-        return none();
+        return None;
     }
     let end = line_end(&buffer[0..filled], 0);
     if buffer.len() <= end {
-        return too_long();
+        too_long();
+        return None;
     }
-    Line {
+    Some(Line {
         left,
         start: 0,
         end,
         filled,
-    }
+    })
 }
 
-// The line behind a line.
-pub fn next(buffer: &mut [u8], line: Line) -> Line
+// The line behind a line, if there is one.
+pub fn next(buffer: &mut [u8], line: Line) -> Option<Line>
     requires { Held line buffer.old × (0 < line.left) }
-    ensures { Held result buffer.new × (result.left < line.left) }
+    ensures { IfSome result (λ found. Held found buffer.new × (0 < found.left) × (found.left < line.left)) }
 {
     let left = line.left - 1;
     if left == 0 {
-        return too_long();
+        too_long();
+        return None;
     }
     let start = behind(line);
     let filled = line.filled;
     let end = line_end(&buffer[0..filled], start);
     if end < filled {
-        return Line {
+        return Some(Line {
             left,
             start,
             end,
             filled,
-        };
+        });
     }
     let held = shift(buffer, start, filled);
     front(buffer, held, left)
 }
 
-// The first line.
-pub fn first(buffer: &mut [u8]) -> Line
-    ensures { Held result buffer.new }
+// The first line, if there is one.
+pub fn first(buffer: &mut [u8]) -> Option<Line>
+    ensures { IfSome result (λ found. Held found buffer.new × (0 < found.left)) }
 {
     front(buffer, 0, u64::MAX)
+}
+
+// Calls with one line after the other.
+pub fn each<F: FnMut(&[u8])>(buffer: &mut [u8], mut call: F)
+    requires { F.IsAlwaysCallable call }
+{
+    let mut found = first(buffer);
+    while let Some(line) = found {
+        call(&buffer[line.start..line.end]);
+        found = next(buffer, line);
+    }
 }

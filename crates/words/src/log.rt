@@ -23,12 +23,11 @@ fn put_run(out: &mut [u8], at: usize, row: u16, times: u16) -> usize
     requires { at ≤ length out.old }
     ensures { result ≤ length out.new }
 {
+    let [low, high] = row.to_le_bytes();
     let mut end = at;
-    let mut i: u16 = 0;
-    while i < times {
-        end = put(out, end, (row % 256) as u8);
-        end = put(out, end, (row / 256) as u8);
-        i += 1;
+    for _ in 0..times {
+        end = put(out, end, low);
+        end = put(out, end, high);
     }
     end
 }

@@ -1,18 +1,9 @@
-ghost use Rattle.std.specs.Prelude.{◌≡◌};
-
 // Standard output, by its number.
 const STDOUT_FILENO: i32 = 1;
 
-// A byte as a number.
-pub fn wide(byte: u8) -> u64
-    ensures { result ≡ byte }
-{
-    byte as u64
-}
-
 // A number.
 pub fn value(value: u16) {
-    io::print_decimal(STDOUT_FILENO, value as u64);
+    io::print_decimal(STDOUT_FILENO, u64::from(value));
 }
 
 // A length.
@@ -29,16 +20,14 @@ pub fn number(word: &[u8], number: u16) {
 
 // The numbers in cells, a blank ahead of each.
 pub fn numbers(cells: &[u16]) {
-    let mut i = 0;
-    while i < cells.len() {
-        number(b"", cells[i]);
-        i += 1;
+    for cell in cells {
+        number(b"", *cell);
     }
 }
 
 pub fn refused(number: u8) {
     io::write_all(STDOUT_FILENO, b"refused ");
-    io::print_decimal(STDOUT_FILENO, number as u64);
+    io::print_decimal(STDOUT_FILENO, u64::from(number));
 }
 
 pub fn line_end() {
@@ -56,15 +45,11 @@ const MOST_BYTES: usize = 2048;
 // The rows of a table, a digit each.
 pub fn rows(table: &[u8]) {
     let mut text = [0u8; MOST_BYTES];
-    let mut i = 0;
-    while i < MOST_BYTES {
-        if table.len() <= i {
-            break;
-        }
-        text[i] = character(table[i]);
-        i += 1;
+    for (place, digit) in text.iter_mut().zip(table) {
+        *place = character(*digit);
     }
-    io::write_all(STDOUT_FILENO, &text[0..i]);
+    let printed = table.len().min(MOST_BYTES);
+    io::write_all(STDOUT_FILENO, &text[..printed]);
 }
 
 // Bytes, two digits each, or `-` for none.
@@ -72,10 +57,8 @@ pub fn bytes(bytes: &[u8]) {
     if bytes.len() == 0 {
         text(b"-");
     }
-    let mut i = 0;
-    while i < bytes.len() {
-        io::print_hex(STDOUT_FILENO, wide(bytes[i]), 2);
-        i += 1;
+    for byte in bytes {
+        io::print_hex(STDOUT_FILENO, u64::from(*byte), 2);
     }
 }
 

@@ -1,6 +1,5 @@
 ghost use Rattle.std.specs.Prelude.{◌<◌, ◌≤◌, length};
 
-use crate::print;
 use rule::Order;
 
 // A number that was read, and the place behind it and the blank after it.
@@ -12,47 +11,34 @@ pub struct Word {
 
 // A number as a byte, 255 where it is above that: as a flag count and as an operator, refused either way.
 pub fn byte(value: u16) -> u8 {
-    if value < 256 { value as u8 } else { 255 }
+    value.min(255) as u8
 }
 
 // The place behind the word at a place and the blank after it.
 pub fn behind(text: &[u8], at: usize) -> usize {
-    let mut i = at;
-    while i < text.len() {
+    for i in at..text.len() {
         if text[i] == b' ' {
             return i + 1;
         }
-        i += 1;
     }
-    i
+    at.max(text.len())
 }
 
-// The number at a place: its digits up to a blank or the end.
+// The number at a place: its digits up to a blank or the end. It wraps where std's own reading refuses.
 pub fn number(text: &[u8], at: usize) -> Word {
-    let mut value: u64 = 0;
-    let mut i = at;
-    while i < text.len() {
+    let mut value: u16 = 0;
+    for i in at..text.len() {
         let byte = text[i];
         if byte < b'0' {
-            return Word {
-                value: (value % 65536) as u16,
-                next: i + 1,
-            };
+            return Word { value, next: i + 1 };
         }
-        value = (value * 10 + print::wide(byte - b'0') % 10) % 65536;
-        i += 1;
+        let digit = u16::from((byte - b'0') % 10);
+        value = value.wrapping_mul(10).wrapping_add(digit);
     }
     Word {
-        value: (value % 65536) as u16,
-        next: i,
+        value,
+        next: at.max(text.len()),
     }
-}
-
-// One more, up to the largest number.
-fn after(count: u16) -> u16
-    ensures { result ≤ 65535 }
-{
-    if count < 65535 { count + 1 } else { count }
 }
 
 // Writes a byte, where there is a place for it.
@@ -65,8 +51,7 @@ fn put(out: &mut [u8], place: usize, byte: u8) {
 // The digits at a place, up to a blank or the end, one to a byte of `out`: how many there are.
 pub fn digits(text: &[u8], at: usize, out: &mut [u8]) -> Word {
     let mut count: u16 = 0;
-    let mut i = at;
-    while i < text.len() {
+    for i in at..text.len() {
         let byte = text[i];
         if byte < b'0' {
             return Word {
@@ -75,12 +60,11 @@ pub fn digits(text: &[u8], at: usize, out: &mut [u8]) -> Word {
             };
         }
         put(out, count as usize, byte - b'0');
-        count = after(count);
-        i += 1;
+        count = count.saturating_add(1);
     }
     Word {
         value: count,
-        next: i,
+        next: at.max(text.len()),
     }
 }
 
@@ -91,7 +75,7 @@ pub fn order(text: &[u8], at: usize) -> Order {
     Order { places }
 }
 
-// The value of a digit, 0 to 9 or a to f.
+// The value of a digit, 0 to 9 or a to f. `to_digit` would take A to F too.
 fn digit(character: u8) -> u8
     ensures { result < 16 }
 {
@@ -105,8 +89,7 @@ fn digit(character: u8) -> u8
 // The bytes at a place, two digits each, up to a blank or the end, one to a byte of `out`: how many there are. The word `-` has none.
 pub fn bytes(text: &[u8], at: usize, out: &mut [u8]) -> Word {
     let mut count: u16 = 0;
-    let mut i = at;
-    while i < text.len() {
+    for i in (at..text.len()).step_by(2) {
         let second = i + 1;
         if text[i] < b'0' {
             return Word {
@@ -115,19 +98,21 @@ pub fn bytes(text: &[u8], at: usize, out: &mut [u8]) -> Word {
             };
         }
         if text.len() <= second {
-            break;
+            return Word {
+                value: count,
+                next: i,
+            };
         }
         put(
             out,
             count as usize,
             digit(text[i]) * 16 + digit(text[second]),
         );
-        count = after(count);
-        i = second + 1;
+        count = count.saturating_add(1);
     }
     Word {
         value: count,
-        next: i,
+        next: at.max(text.len()),
     }
 }
 
@@ -135,21 +120,16 @@ pub fn bytes(text: &[u8], at: usize, out: &mut [u8]) -> Word {
 pub fn cells(text: &[u8], at: usize, out: &mut [u16]) -> usize
     ensures { result ≤ length out.new }
 {
-    let mut i = at;
-    let mut count = 0;
-    while i < text.len() {
-        if out.len() <= count {
+    let mut next = at;
+    for (count, cell) in out.iter_mut().enumerate() {
+        if text.len() <= next {
             return count;
         }
-        let word = number(text, i);
-        out[count] = word.value;
-        count += 1;
-        if word.next <= i {
-            return count;
-        }
-        i = word.next;
+        let word = number(text, next);
+        *cell = word.value;
+        next = word.next;
     }
-    count
+    out.len()
 }
 
 // Where the line at a place ends: at its line end, or at the end of the text.
@@ -157,12 +137,8 @@ pub fn line_end(text: &[u8], at: usize) -> usize
     requires { at ≤ length text.now }
     ensures { (at ≤ result) × (result ≤ length text.now) }
 {
-    let mut i = at;
-    while i < text.len() {
-        if text[i] == b'\n' {
-            return i;
-        }
-        i += 1;
+    match text[at..].iter().position(|byte| *byte == b'\n') {
+        Some(place) => at + place,
+        None => text.len(),
     }
-    i
 }

@@ -1,48 +1,30 @@
--- What the writer tests and computes: its rows, the file's length, and the bit map.
+-- What the writer tests and computes: its rows and the file's length.
 -- Assumes nothing.
 use mathlib.Core.Path.{◌≡◌, refl, sym, ap, ◌∙◌}
-use mathlib.Core.Bool.{Bool, true, false, not}
 use mathlib.Core.List.{List, [], ◌∷◌, ◌++◌, append_assoc}
-use Prim.Native.Nat.{ℕ, zero, suc, ◌+◌, ◌*◌, ◌≤◌, ◌<◌}
+use Prim.Native.Nat.{ℕ, zero, suc, ◌+◌, ◌*◌, ◌≤◌}
 use native.Mathlib.Omega.{arith}
-use borrow.Author.Tests.{ne_eqb, lt-ltb, le-ltb, ltb-false, not-true, not-false}
+use borrow.Author.Tests.{ltb-false}
 use lib.ListN.{length, length-append}
 use lib.Seq.{length-take-le}
-use Rattle.rule.specs.Tests.{each}
 use Rattle.rule.specs.Order.{places, flags}
 use Rattle.rule.specs.Cells.{records_in}
 use Rattle.rule.specs.Refusals.{refusal, check_rows}
-use Rattle.rule.specs.Reply.{accepted, refused, reply}
-use Rattle.rule.specs.Files.{longest_label, count_size, record_size, two, printable, bit_if, if_some, record_bytes, map_of, file_of, write_rows, Writes}
+use Rattle.rule.specs.Reply.{accepted, reply}
+use Rattle.rule.specs.Files.{longest_label, count_size, record_size, two, bit_if, if_some, record_bytes, map_of, file_of, write_rows, Writes}
 use Rattle.theory.proofs.Refused.{passed}
 use Rattle.theory.proofs.Sound.{sound_shape}
 use Rattle.runs.specs.Run.{Puts}
 use Rattle.runs.proofs.Puts.{puts_more, run_accepted}
 use Rattle.encoding.proofs.Puts.{length_records}
-use Rattle.checking.proofs.First.{check_taken, check_refuses, check_passes, none_refuses}
+use Rattle.checking.proofs.First.{check_taken, check_passes, none_refuses}
 use Rattle.writing.specs.Write.{size_of, own_rows, Writable}
 
 -- ---- what stands only where there is something
 
-pub some_is : (k x : ℕ) → (k ≡ 0 → ⊥) → x ≡ bit_if k x
-some_is zero x d = absurd (d refl)
-some_is (suc k) x d = refl
-
-pub some_le : (k x : ℕ) → bit_if k x ≤ x
-some_le zero x = omega arith
-some_le (suc k) x = omega arith
-
 some-length : (k : ℕ) (l : List ℕ) {n : ℕ} → length l ≡ n → length (if_some k l) ≡ bit_if k n
 some-length zero l e = refl
 some-length (suc k) l e = e
-
--- ---- the bit map
-
-pub map-none : (size used root : ℕ) {a b : ℕ} → used ≡ 0 → a ≡ bit_if size 4 → b ≡ bit_if root 16 → 3 + a + b ≡ map_of size used root
-map-none size used root z p q = rw (z, p, q) (omega arith)
-
-pub map-some : (size used root : ℕ) {a : ℕ} → (used ≡ 0 → ⊥) → a ≡ bit_if size 4 → 3 + a + 8 ≡ map_of size used root
-map-some size used root d p = rw (p, ne_eqb used 0 d, ← some_is used 8 d) (omega arith)
 
 -- ---- the file's length
 
@@ -99,29 +81,9 @@ file_puts n o c used root l h e p q s t u =
 
 -- ---- the rows
 
-module _ (size : ℕ) (l bytes : List ℕ) where
-  pub own_long : longest_label < length l → 13 ≡ refusal (own_rows size l bytes)
-  own_long h = rw (lt-ltb longest_label (length l) h)
-
-  module _ (h : length l ≤ longest_label) {a : Bool} (e : a ≡ each printable l) where
-    pub own_unprintable : not a ≡ true → 13 ≡ refusal (own_rows size l bytes)
-    own_unprintable f = rw (le-ltb longest_label (length l) h, sym e ∙ not-true a f)
-
-    module _ (f : not a ≡ false) where
-      pub own_short : length bytes < size → 10 ≡ refusal (own_rows size l bytes)
-      own_short g = rw (le-ltb longest_label (length l) h, sym e ∙ not-false a f, lt-ltb (length bytes) size g)
-
-      pub own_none : size ≤ length bytes → 0 ≡ refusal (own_rows size l bytes)
-      own_none g = rw (le-ltb longest_label (length l) h, sym e ∙ not-false a f, le-ltb (length bytes) size g)
-
 module _ (n : ℕ) (o c : List ℕ) (used root : ℕ) (l bytes : List ℕ) where
   size : ℕ
   size = length (file_of n o c used root l)
-
-  pub first_refuses : {k : ℕ} (w : List ℕ) → refused k w ≡ reply (refusal (check_rows n o c used root)) (used ∷ [])
-      → k ≡ refusal (write_rows n o c used root l bytes)
-  unfolding size
-  first_refuses = check_refuses n o c used root (own_rows size l bytes)
 
   pub own_passes : {k : ℕ} (w : List ℕ) → accepted w ≡ reply (refusal (check_rows n o c used root)) (used ∷ []) → length o ≡ places
       → k ≡ refusal (own_rows (size_of n (length l) used) l bytes) → k ≡ refusal (write_rows n o c used root l bytes)
@@ -131,14 +93,11 @@ module _ (n : ℕ) (o c : List ℕ) (used root : ℕ) (l bytes : List ℕ) where
       let enough : n ≤ length o = omega (arith, (check_taken n o c used root z).few) in
       f ∙ ap (λ (k : ℕ). refusal (own_rows k l bytes)) (sym (size_is n o c used root l enough)) ∙ more
 
-  module _ {k : ℕ} (e : k ≡ refusal (write_rows n o c used root l bytes)) (z : k ≡ 0) where
-    passes : refusal (write_rows n o c used root l bytes) ≡ 0
-    passes = sym e ∙ z
-
+  module _ (e : 0 ≡ refusal (write_rows n o c used root l bytes)) where
     pub writable : Writable n o c used root l bytes
     unfolding size
     writable =
-        let (taken, own) = none_refuses n o c used root (own_rows size l bytes) passes in
+        let (taken, own) = none_refuses n o c used root (own_rows size l bytes) (sym e) in
         let (short, (_, (fits, _))) = passed (own_rows size l bytes) refl own in
         let right = sound_shape n o c used taken.is_sound in
         let few = taken.few in
@@ -153,4 +112,4 @@ module _ (n : ℕ) (o c : List ℕ) (used root : ℕ) (l bytes : List ℕ) where
     pub write_accepted : {r : ℕ} {after : List ℕ} → Puts bytes 0 (file_of n o c used root l) r after → Writes n o c used root l bytes (accepted (r ∷ [])) after
     write_accepted {r} p =
         let whole : r ≡ length (file_of n o c used root l) = omega (arith, p.next_is) in
-        rw whole (run_accepted (length (file_of n o c used root l) ∷ []) passes p)
+        rw whole (run_accepted (length (file_of n o c used root l) ∷ []) (sym e) p)

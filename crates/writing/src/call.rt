@@ -1,6 +1,6 @@
 ghost use Rattle.std.specs.Prelude.{◌≡◌, ◌≤◌, length};
 ghost use Rattle.rule.specs.Refusals.{refusal};
-ghost use Rattle.rule.specs.Answers.{written_reply};
+ghost use Rattle.rule.specs.Answers.{test_number, number_reply};
 ghost use Rattle.rule.specs.Files.{longest_label, bit_if, map_of, file_of, write_rows, Writes};
 ghost use Rattle.runs.specs.Run.{Puts};
 ghost use Rattle.writing.specs.Write.{size_of, own_rows, Writable};
@@ -8,8 +8,8 @@ ghost use Rattle.writing.specs.Write.{size_of, own_rows, Writable};
 use arguments::all_printable;
 use encoding::{put_counted, put_flags, put_label};
 use rule::{
-    COUNT_SIZE, Counted, FLAGS_BIT, LABEL_BIT, LONGEST_LABEL, Node, ORDER_BIT, Order, RECORD_SIZE,
-    RECORDS_BIT, Written, YES_BIT,
+    COUNT_SIZE, FLAGS_BIT, LABEL_BIT, LONGEST_LABEL, Node, ORDER_BIT, Order, RECORD_SIZE,
+    RECORDS_BIT, Refusal, YES_BIT,
 };
 use runs::put_byte;
 
@@ -52,24 +52,24 @@ fn file_size(n: u8, size: usize, used: u16) -> usize
     2 + n as usize + if_some(size, size + 1) + if_some(count, count * RECORD_SIZE + COUNT_SIZE)
 }
 
-// What the writer tests of a label and of the lent bytes, 0 for none: 13, then 10.
-fn own_refusal(n: u8, used: u16, label: &[u8], bytes: &[u8]) -> u8
-    ensures { result ≡ refusal (own_rows (size_of n (length label.now) used) label.now bytes.now) }
+// The writer's tests of a label and of the lent bytes: 13, then 10.
+fn test_own(n: u8, used: u16, label: &[u8], bytes: &[u8]) -> Result<(), Refusal>
+    ensures { test_number result ≡ refusal (own_rows (size_of n (length label.now) used) label.now bytes.now) }
 {
     if LONGEST_LABEL < label.len() {
-        return 13;
+        return Err(Refusal::FileLabel);
     }
     if !all_printable(label) {
-        return 13;
+        return Err(Refusal::FileLabel);
     }
     if bytes.len() < file_size(n, label.len(), used) {
-        return 10;
+        return Err(Refusal::NoRoom);
     }
-    0
+    Ok(())
 }
 
-// The writer's refusal, 0 for none: those of check, then its own.
-fn write_refusal(
+// All tests of the writer: those of check, then its own.
+fn test_write(
     n: u8,
     order: Order,
     cells: &[u16],
@@ -77,14 +77,11 @@ fn write_refusal(
     root: Node,
     label: &[u8],
     bytes: &[u8],
-) -> u8
-    ensures { result ≡ refusal (write_rows n order.places cells.now used root.number label.now bytes.now) }
+) -> Result<(), Refusal>
+    ensures { test_number result ≡ refusal (write_rows n order.places cells.now used root.number label.now bytes.now) }
 {
-    let counted = checking::check(n, order, cells, used, root);
-    match counted {
-        Counted::Refused(k) => k,
-        Counted::Nodes(_) => own_refusal(n, used, label, bytes),
-    }
+    checking::check(n, order, cells, used, root)?;
+    test_own(n, used, label, bytes)
 }
 
 // Writes a file that the lent bytes have room for, and hands back its length.
@@ -116,12 +113,9 @@ pub fn write(
     root: Node,
     label: &[u8],
     bytes: &mut [u8],
-) -> Written
-    ensures { Writes n order.places cells.now used root.number label.now bytes.old (written_reply result) bytes.new }
+) -> Result<usize, Refusal>
+    ensures { Writes n order.places cells.now used root.number label.now bytes.old (number_reply result) bytes.new }
 {
-    let refused = write_refusal(n, order, cells, used, root, label, bytes);
-    if refused != 0 {
-        return Written::Refused(refused);
-    }
-    Written::Bytes(put_file(n, order, cells, used, root.number, label, bytes))
+    test_write(n, order, cells, used, root, label, bytes)?;
+    Ok(put_file(n, order, cells, used, root.number, label, bytes))
 }

@@ -1,31 +1,23 @@
--- `console::read` meets its contract: bytes that are not enough are no more than a table's rows, so each finds a place.
+-- `console::read` meets its contract: what is enough is final, and so are more bytes than a table has rows.
 -- Assumes nothing.
-use mathlib.Core.Path.{sym, ◌∙◌}
-use mathlib.Core.Bool.{true≢false}
+use Rattle.std.proofs.Common.{◌≡◌, ◌<◌, true, List, ℕ, length, take, refl, sym, ◌∙◌, arith}
 use native.Mathlib.Nat.{sub-zero}
-use native.Mathlib.Omega.{arith}
-use borrow.Author.Rules.{rules}
-use Rattle.parsing.proofs.Enough.{enough_final, short_front}
+use borrow.Author.Tests.{lt-ltb}
+use lib.Seq.{length-take-le}
+use Rattle.rule.specs.Listing.{most_rows}
+use Rattle.parsing.specs.Final.{enough}
+use Rattle.parsing.proofs.Enough.{enough_final}
 use Rattle.console.proofs.read.Goals as goal
 
-pub returns-then-read_full-eq0 : goal.returns-then-read_full-eq0
-returns-then-read_full-eq0 c = (search rules, λ e. absurd (true≢false e))
+many-enough : (l : List ℕ) → most_rows < length l → enough l ≡ true
+unfolding enough
+many-enough l h = rw (lt-ltb most_rows (length l) h) refl
 
-pub bounds-input-i : goal.bounds-input-i
-bounds-input-i c =
-    let few = short_front c.loop-byte.input c.loop-byte.i (omega (arith, c.loop-byte.invariant.1)) (sym c.is_enough.ensures ∙ c.loop-byte-test.true) in
-    omega (arith, few, c.requires, c.loop-byte.invariant.1)
-
-pub loop-byte-smaller : goal.loop-byte-smaller
-loop-byte-smaller c =
-    let few = short_front c.loop-byte.input c.loop-byte.i (omega (arith, c.loop-byte.invariant.1)) (sym c.is_enough.ensures ∙ c.loop-byte-test.true) in
-    omega (arith, few, c.requires)
-
-pub loop-byte-preserved : goal.loop-byte-preserved
-loop-byte-preserved c =
-    let few = short_front c.loop-byte.input c.loop-byte.i (omega (arith, c.loop-byte.invariant.1)) (sym c.is_enough.ensures ∙ c.loop-byte-test.true) in
-    (omega (arith, few, c.requires), search rules)
+pub returns-then-is_enough : goal.returns-then-is_enough
+returns-then-is_enough c =
+    (omega arith, λ e. rw sub-zero at (enough_final _ (sym c.is_enough.ensures ∙ c.if-is_enough.true)))
 
 pub returns : goal.returns
 returns c =
-    (omega (arith, c.loop-byte.invariant.1), λ e. rw sub-zero at (enough_final _ (sym c.is_enough.ensures ∙ c.loop-byte-test.false)))
+    let l = c.loop-i.input in
+    (omega arith, λ e. enough_final _ (many-enough (take (length l) l) (omega (arith, length-take-le (length l) l (omega arith), c.requires, c.loop-i.invariant.1))))

@@ -10,8 +10,8 @@ use Rattle.costing.proofs.cheapest.Goals.{then-bit-eq1+then-other-cost, then-bit
 pub via-cost-requires : goal.via-cost-requires
 via-cost-requires c = let p = c.requires in (p.0, p.1, p.2.member)
 
-pub overflow_add-u : goal.overflow_add-u
-overflow_add-u c = let p = c.requires in omega (arith, ready_small_flag p.0 _ p.2.member)
+pub overflow_step-u : goal.overflow_step-u
+overflow_step-u c = let p = c.requires in omega (arith, ready_small_flag p.0 _ p.2.member)
 
 pub loop-u-init : goal.loop-u-init
 loop-u-init c = cheapest_first c.requires.2 c.via-cost.ensures
@@ -24,9 +24,6 @@ via-other-requires c =
     let p = c.requires in
     (p.0, p.1, sym c.bit.ensures ∙ c.if-bit-eq1.true)
 
-pub overflow_add-u-in-loop-u : goal.overflow_add-u-in-loop-u
-overflow_add-u-in-loop-u c = omega (arith, c.requires.0.started.few)
-
 pub loop-u-preserved : goal.loop-u-preserved
 loop-u-preserved c =
     let inv = c.loop-u.invariant in
@@ -38,4 +35,4 @@ loop-u-preserved c =
     ]
 
 pub returns : goal.returns
-returns c = cheapest_all c.loop-u.invariant c.requires.0 c.loop-u-test.false
+returns c = cheapest_all c.loop-u.invariant c.requires.0 (omega arith)

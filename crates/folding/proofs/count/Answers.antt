@@ -6,8 +6,8 @@ use mathlib.Core.List.{List}
 use Prim.Native.Nat.{ℕ, ◌+◌, ◌*◌, ◌≤◌}
 use native.Mathlib.Omega.{arith}
 use lib.ListN.{length}
+use lib.Pow.{pow_mono}
 use Rattle.ways.specs.Ways.{Foldable}
-use Rattle.ways.proofs.Insert.{way_few}
 use Rattle.folding.proofs.Counted.{passing, passing_none, nodes_all, ways_all, way_counted, way_passed, node_counted, halves_passed, later_passed}
 use Rattle.folding.proofs.LevelBound.{counted_few}
 use Rattle.folding.proofs.count.Goals as goal
@@ -22,23 +22,20 @@ loop-i-init c = (omega arith, passing_none _, passing_none _)
 
 pub code_at-requires : goal.code_at-requires
 code_at-requires c =
-    let s = c.requires in
-    (s.0, omega (arith, s.1), omega arith)
+    (omega (arith, c.requires), omega arith)
 
 pub code_at-requires-in-loop-i : goal.code_at-requires-in-loop-i
 code_at-requires-in-loop-i c =
-    let s = c.requires in
-    (s.0, omega (arith, s.1), omega arith)
+    (omega (arith, c.requires), omega arith)
 
 pub overflow_add-ways : goal.overflow_add-ways
-overflow_add-ways c = omega (arith, few _ _ _ _ _ c.requires.0 c.requires.1 c.loop-i.invariant.0 _ c.loop-i.invariant.2)
+overflow_add-ways c = omega (arith, few _ _ _ _ _ c.args.halves.foldable c.requires c.loop-i.invariant.0 _ c.loop-i.invariant.2)
 
 pub overflow_add-nodes : goal.overflow_add-nodes
-overflow_add-nodes c = omega (arith, few _ _ _ _ _ c.requires.0 c.requires.1 c.loop-i.invariant.0 _ c.loop-i.invariant.1)
+overflow_add-nodes c = omega (arith, few _ _ _ _ _ c.args.halves.foldable c.requires c.loop-i.invariant.0 _ c.loop-i.invariant.1)
 
-pub overflow_add-i : goal.overflow_add-i
-overflow_add-i c =
-    omega (arith, way_few c.requires.0 c.loop-i.i (omega (arith, c.requires.1)))
+pub overflow_cast-i-end : goal.overflow_cast-i-end
+overflow_cast-i-end c = let f = c.args.halves.foldable in omega (arith, c.requires, f.ways, pow_mono {j = 9} f.few)
 
 pub loop-i-preserved : goal.loop-i-preserved
 loop-i-preserved c =
@@ -64,12 +61,12 @@ loop-i-preserved c =
     ]
 
 pub overflow_cast-result : goal.overflow_cast-result
-overflow_cast-result c = omega (arith, few _ _ _ _ _ c.requires.0 c.requires.1 c.loop-i.invariant.0 _ c.loop-i.invariant.1)
+overflow_cast-result c = omega (arith, few _ _ _ _ _ c.args.halves.foldable c.requires c.loop-i.invariant.0 _ c.loop-i.invariant.1)
 
 pub returns : goal.returns
 returns c =
     let e : c.loop-i.i ≡ length c.args.codes.now = omega arith in
     record {
       nodes_are = c.loop-i.invariant.1 ∙ ap (passing _) e ∙ nodes_all _ _ _;
-      ways_are = c.loop-i.invariant.2 ∙ ap (passing _) e ∙ ways_all _ _ c.args.codes.now c.requires.1;
+      ways_are = c.loop-i.invariant.2 ∙ ap (passing _) e ∙ ways_all _ _ c.args.codes.now c.requires;
     }

@@ -1,7 +1,7 @@
 -- `folding::count` meets its contract: the counts are those of the ways passed.
 -- Assumes nothing.
 use mathlib.Core.Path.{◌≡◌}
-use Prim.Native.Nat.{◌≤◌, ◌-◌}
+use Prim.Native.Nat.{◌≤◌}
 use lib.ListN.{length}
 use Rattle.folding.specs.Fold.{differs, is_node}
 use Rattle.folding.proofs.Counted.{passing}
@@ -9,7 +9,4 @@ use Rattle.folding.proofs.count.Given as goal
 
 abbrev pub invariant-loop-i : goal.invariant-loop-i
 invariant-loop-i l =
-    (l.i ≤ length l.codes) × (l.nodes ≡ passing (is_node l.source l.p l.codes) l.i) × (l.ways ≡ passing (differs l.source l.p) l.i)
-
-abbrev pub decreases-loop-i : goal.decreases-loop-i
-decreases-loop-i l = length l.codes - l.i
+    (l.i ≤ length l.codes) × (l.nodes ≡ passing (is_node l.halves.source.now l.halves.p l.codes) l.i) × (l.ways ≡ passing (differs l.halves.source.now l.halves.p) l.i)

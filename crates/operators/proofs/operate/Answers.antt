@@ -1,13 +1,11 @@
 -- `operators::operate` meets its contract: at each code, by the four values of the two bits.
 -- Assumes nothing.
 use mathlib.Core.Path.{◌≡◌, refl}
-use Prim.Native.Nat.{ℕ, zero, suc, ◌+◌, ◌-◌, ◌≤◌, ◌<◌, zero-le}
+use Prim.Native.Nat.{ℕ, zero, suc, ◌-◌, ◌<◌}
 use native.Mathlib.Omega.{arith}
-use lib.Bits.{bit_and, bit_or, bit_xor}
-use lib.Dec.{lit≤}
-use borrow.Author.Tests.{lt-ltb}
+use lib.Bits.{bit_and, bit_or}
 use Rattle.operators.specs.Answer.{digit_reply, answer}
-use Rattle.operators.specs.declared.Digit.TheVariants.{Node}
+use Rattle.std.specs.Prelude.{Ok}
 use Rattle.operators.proofs.operate.Goals as goal
 
 -- what holds of the four pairs of bits holds of any
@@ -21,28 +19,9 @@ four P p q r s zero (suc (suc b)) h i = let z : ⊥ = omega arith in absurd z
 four P p q r s (suc zero) (suc (suc b)) h i = let z : ⊥ = omega arith in absurd z
 
 -- an arm that computes f is right at the code k, where it is right at the four pairs
-arm : (k : ℕ) (f : ℕ → ℕ → ℕ) → digit_reply (Node (f 0 0)) ≡ answer k 0 0 → digit_reply (Node (f 0 1)) ≡ answer k 0 1 → digit_reply (Node (f 1 0)) ≡ answer k 1 0 → digit_reply (Node (f 1 1)) ≡ answer k 1 1
-    → (code a b : ℕ) → code ≡ k → (a < 2) × (b < 2) → digit_reply (Node (f a b)) ≡ answer code a b
-arm k f p q r s code a b e h = rw e (four (λ (a b : ℕ). digit_reply (Node (f a b)) ≡ answer k a b) p q r s a b h.0 h.1)
-
-bit : (f : ℕ → ℕ → ℕ) → f 0 0 ≤ 1 → f 0 1 ≤ 1 → f 1 0 ≤ 1 → f 1 1 ≤ 1 → (a b : ℕ) → (a < 2) × (b < 2) → f a b ≤ 1
-bit f p q r s a b h = four (λ (a b : ℕ). f a b ≤ 1) p q r s a b h.0 h.1
-
--- what is none of 0 to k - 1, and not k, is above k
-past : {k code : ℕ} → k ≤ code → (code ≡ k → ⊥) → k + 1 ≤ code
-past h f = omega arith
-
-pub overflow_sub-result-in-8 : goal.overflow_sub-result-in-8
-overflow_sub-result-in-8 c = bit (λ a b. bit_or a b) (lit≤ tt) (lit≤ tt) (lit≤ tt) (lit≤ tt) _ _ c.requires
-
-pub overflow_sub-result-in-9 : goal.overflow_sub-result-in-9
-overflow_sub-result-in-9 c = bit (λ a b. bit_xor a b) (lit≤ tt) (lit≤ tt) (lit≤ tt) (lit≤ tt) _ _ c.requires
-
-pub overflow_sub-result-in-14 : goal.overflow_sub-result-in-14
-overflow_sub-result-in-14 c = bit (λ a b. bit_and a b) (lit≤ tt) (lit≤ tt) (lit≤ tt) (lit≤ tt) _ _ c.requires
-
-pub returns-in-0 : goal.returns-in-0
-returns-in-0 c = arm 0 (λ a b. 0) refl refl refl refl _ _ _ c.in-0.is c.requires
+arm : (k : ℕ) (f : ℕ → ℕ → ℕ) → digit_reply (Ok (f 0 0)) ≡ answer k 0 0 → digit_reply (Ok (f 0 1)) ≡ answer k 0 1 → digit_reply (Ok (f 1 0)) ≡ answer k 1 0 → digit_reply (Ok (f 1 1)) ≡ answer k 1 1
+    → (code a b : ℕ) → code ≡ k → (a < 2) × (b < 2) → digit_reply (Ok (f a b)) ≡ answer code a b
+arm k f p q r s code a b e h = rw e (four (λ (a b : ℕ). digit_reply (Ok (f a b)) ≡ answer k a b) p q r s a b h.0 h.1)
 
 pub returns-in-1 : goal.returns-in-1
 returns-in-1 c = arm 1 (λ a b. bit_and a b) refl refl refl refl _ _ _ c.in-1.is c.requires
@@ -59,17 +38,11 @@ returns-in-4 c = arm 4 (λ a b. bit_and (1 - a) b) refl refl refl refl _ _ _ c.i
 pub returns-in-5 : goal.returns-in-5
 returns-in-5 c = arm 5 (λ a b. b) refl refl refl refl _ _ _ c.in-5.is c.requires
 
-pub returns-in-6 : goal.returns-in-6
-returns-in-6 c = arm 6 (λ a b. bit_xor a b) refl refl refl refl _ _ _ c.in-6.is c.requires
-
 pub returns-in-7 : goal.returns-in-7
 returns-in-7 c = arm 7 (λ a b. bit_or a b) refl refl refl refl _ _ _ c.in-7.is c.requires
 
 pub returns-in-8 : goal.returns-in-8
 returns-in-8 c = arm 8 (λ a b. 1 - bit_or a b) refl refl refl refl _ _ _ c.in-8.is c.requires
-
-pub returns-in-9 : goal.returns-in-9
-returns-in-9 c = arm 9 (λ a b. 1 - bit_xor a b) refl refl refl refl _ _ _ c.in-9.is c.requires
 
 pub returns-in-10 : goal.returns-in-10
 returns-in-10 c = arm 10 (λ a b. 1 - b) refl refl refl refl _ _ _ c.in-10.is c.requires
@@ -88,13 +61,3 @@ returns-in-14 c = arm 14 (λ a b. 1 - bit_and a b) refl refl refl refl _ _ _ c.i
 
 pub returns-in-15 : goal.returns-in-15
 returns-in-15 c = arm 15 (λ a b. 1) refl refl refl refl _ _ _ c.in-15.is c.requires
-
--- the rest is what is none of the sixteen codes
-pub returns-in_default : goal.returns-in_default
-returns-in_default c =
-    let r = c.in_default.in_default-own.rest in
-    let h4 : 4 ≤ c.args.code = past (past (past (past zero-le r.0.0.0.0.0.0.0.0.0.0.0.0.0.0.0.1) r.0.0.0.0.0.0.0.0.0.0.0.0.0.0.1) r.0.0.0.0.0.0.0.0.0.0.0.0.0.1) r.0.0.0.0.0.0.0.0.0.0.0.0.1 in
-    let h8 : 8 ≤ c.args.code = past (past (past (past h4 r.0.0.0.0.0.0.0.0.0.0.0.1) r.0.0.0.0.0.0.0.0.0.0.1) r.0.0.0.0.0.0.0.0.0.1) r.0.0.0.0.0.0.0.0.1 in
-    let h12 : 12 ≤ c.args.code = past (past (past (past h8 r.0.0.0.0.0.0.0.1) r.0.0.0.0.0.0.1) r.0.0.0.0.0.1) r.0.0.0.0.1 in
-    let h16 : 16 ≤ c.args.code = past (past (past (past h12 r.0.0.0.1) r.0.0.1) r.0.1) r.1 in
-    simp (lt-ltb _ _ h16)

@@ -1,15 +1,12 @@
 -- `reach::mark_children` meets its contract: the children of the records passed are marked.
 -- Assumes nothing.
-use mathlib.Core.Path.{◌≡◌, subst}
-use Prim.Native.Nat.{ℕ}
 use native.Mathlib.Omega.{arith}
 use Rattle.theory.proofs.Shape.{children_smaller_lem}
-use Rattle.reach.specs.Mark.{Marked}
 use Rattle.reach.proofs.Marks.{marked_none, marked_more}
 use Rattle.reach.proofs.mark_children.Goals as goal
 
 pub loop-j-init : goal.loop-j-init
-loop-j-init c = (omega arith, rw c.requires.3 (marked_none _))
+loop-j-init c = rw c.requires.3 (marked_none _)
 
 pub mark-requires : goal.mark-requires
 mark-requires c =
@@ -24,15 +21,8 @@ mark-requires-in-loop-j c =
 pub loop-j-preserved : goal.loop-j-preserved
 loop-j-preserved c =
     let p = c.requires in
-    let small = (children_smaller_lem _ _).0 p.2 c.loop-j.j c.loop-j-test.true in (
-      omega arith,
-      rw (c.mark-in-loop-j.ensures, c.mark.ensures)
-          (marked_more c.loop-j.invariant.1 c.low_at.ensures c.high_at.ensures
-          (omega (arith, c.low_at.ensures, p.0, p.1, small.0))
-          (omega (arith, c.high_at.ensures, p.0, p.1, small.1))),
-    )
-
-pub returns : goal.returns
-returns c =
-    let e : c.loop-j.j ≡ c.args.used = omega arith in
-    subst (λ (j : ℕ). Marked c.args.cells.now j c.loop-j.marks) e c.loop-j.invariant.1
+    let small = (children_smaller_lem _ _).0 p.2 c.loop-j.j c.loop-j-test.true in
+    rw (c.mark-in-loop-j.ensures, c.mark.ensures)
+    (marked_more c.loop-j.invariant c.low_at.ensures c.high_at.ensures
+    (omega (arith, c.low_at.ensures, p.0, p.1, small.0))
+    (omega (arith, c.high_at.ensures, p.0, p.1, small.1)))

@@ -1,11 +1,7 @@
 -- `reach::mark_children` meets its contract: the children of the records passed are marked.
 -- Assumes nothing.
-use Prim.Native.Nat.{◌-◌, ◌≤◌}
 use Rattle.reach.specs.Mark.{Marked}
 use Rattle.reach.proofs.mark_children.Given as goal
 
 abbrev pub invariant-loop-j : goal.invariant-loop-j
-invariant-loop-j l = (l.j ≤ l.used) × Marked l.cells l.j l.marks
-
-abbrev pub decreases-loop-j : goal.decreases-loop-j
-decreases-loop-j l = l.used - l.j
+invariant-loop-j l = Marked l.cells l.j l.marks

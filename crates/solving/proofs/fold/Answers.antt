@@ -3,7 +3,7 @@
 use native.Mathlib.Omega.{arith}
 use Rattle.stretches.proofs.Stretches.{part_most}
 use Rattle.costing.proofs.Ready.{ready_small, ready_small_flag, ready_rest}
-use Rattle.solving.proofs.Held.{held_within, can_fold_held, folded_held}
+use Rattle.solving.proofs.Held.{can_fold_held, folded_held}
 use Rattle.solving.proofs.fold.Goals as goal
 
 pub set_bit-requires : goal.set_bit-requires
@@ -17,22 +17,22 @@ slice_bounds-held-end c =
     let p = c.requires in
     omega (arith, part_most p.0.started.few c.locate-source.ensures)
 
-pub slice_bounds-fold-end : goal.slice_bounds-fold-end
-slice_bounds-fold-end c =
-    let p = c.requires in
-    held_within p.0 _ p.1 c.set_bit.ensures c.locate-source.ensures c.locate-own.ensures c.copy.ensures _
-
 pub place_of-requires : goal.place_of-requires
 place_of-requires c =
     let p = c.requires in
     ready_small_flag p.0 _ p.1
 
+pub new-halves-requires : goal.new-halves-requires
+new-halves-requires c =
+    let p = c.requires in
+    (can_fold_held p.0 _ p.1 c.set_bit.ensures c.locate-source.ensures c.locate-own.ensures c.copy.ensures _ c.place_of.ensures).0
+
 pub fold-requires : goal.fold-requires
 fold-requires c =
     let p = c.requires in
-    can_fold_held p.0 _ p.1 c.set_bit.ensures c.locate-source.ensures c.locate-own.ensures c.copy.ensures _ c.place_of.ensures
+    rw c.new-halves.ensures.0 (can_fold_held p.0 _ p.1 c.set_bit.ensures c.locate-source.ensures c.locate-own.ensures c.copy.ensures _ c.place_of.ensures).1
 
 pub returns : goal.returns
 returns c =
     let p = c.requires in
-    folded_held p.0 _ p.1 c.set_bit.ensures c.locate-source.ensures c.locate-own.ensures c.copy.ensures _ c.place_of.ensures c.fold.ensures
+    folded_held p.0 _ p.1 c.set_bit.ensures c.locate-source.ensures c.locate-own.ensures c.copy.ensures _ c.place_of.ensures c.new-halves.ensures c.fold.ensures

@@ -33,9 +33,6 @@ length-at-requires c = (c.loop-set.invariant.few, omega (arith, c.row_count-end.
 pub overflow_add-at : goal.overflow_add-at
 overflow_add-at c = omega (arith, starting_fits c.loop-set.invariant (below c) c.length-at.ensures)
 
-pub overflow_add-set : goal.overflow_add-set
-overflow_add-set c = omega (arith, below c, pow_mono {j = 10} c.loop-set.invariant.few)
-
 pub loop-set-preserved : goal.loop-set-preserved
 loop-set-preserved c = starting_more c.loop-set.invariant (below c) c.length-at.ensures
 

@@ -6,12 +6,9 @@ use Rattle.way_index.proofs.Chain.{index_entered}
 use Rattle.way_index.proofs.enter.Goals as goal
 
 pub bounds-index-i : goal.bounds-index-i
-bounds-index-i c = let s = c.requires in omega (arith, way_few s.0 _ s.1)
-
-pub overflow_add-index-2 : goal.overflow_add-index-2
-overflow_add-index-2 c = let s = c.requires in omega (arith, way_few s.0 _ s.1)
+bounds-index-i c = omega (arith, way_few c.args.halves.foldable _ c.requires.0)
 
 pub returns : goal.returns
 returns c =
     let s = c.requires in
-    index_entered (way_few s.0 _ s.1) s.3 s.2 c.code_at-low.ensures c.code_at-high.ensures c.hash-h.ensures.0
+    index_entered (way_few c.args.halves.foldable _ s.0) s.2 s.1 c.code_at-low.ensures c.code_at-high.ensures c.hash-h.ensures.0

@@ -4,7 +4,7 @@ use Rattle.way_index.proofs.Chain.{Searched}
 use Rattle.way_index.proofs.find.Given as goal
 
 abbrev pub invariant-loop-at : goal.invariant-loop-at
-invariant-loop-at l = Searched l.source l.p l.i l.at
+invariant-loop-at l = Searched l.halves.source.now l.halves.p l.i l.at
 
 abbrev pub decreases-loop-at : goal.decreases-loop-at
 decreases-loop-at l = l.at

@@ -18,6 +18,6 @@ returns-then-sound c =
     let s = sym c.sound.ensures.0 ∙ c.if-sound.true in
     c.all_reached.ensures ∙ rw (s, le-leb _ _ c.requires.2)
 
-pub returns : goal.returns
+pub returns-else-sound : goal.returns-else-sound
 unfolding diagram
-returns c = rw (sym c.sound.ensures.0 ∙ c.if-sound.false)
+returns-else-sound c = c.if-sound.false ∙ rw (sym c.sound.ensures.0 ∙ c.if-sound.false)

@@ -1,7 +1,6 @@
 -- `choosing::nodes::choose_nodes` meets its contract: the measure is the number of flags left in the order, and each step is one of Chosen.antt and Down.antt.
 -- Assumes nothing.
 use native.Mathlib.Omega.{arith}
-use borrow.Author.Rules.{rules}
 use Rattle.apply.proofs.Down.{stands, grown_ready, full_low, made}
 use Rattle.choosing.proofs.Chosen.{no_arm, yes_arm, equal_arms, earlier_from, is_record, top_fits, top, choose_split, low_from, low_rule, high_from, high_rule}
 use Rattle.choosing.proofs.nodes.+choose_nodes.Goals as goal
@@ -31,7 +30,7 @@ flag_at-flag-requires t c = let p = c.requires in
 
 pub level-next-requires : goal.level-next-requires
 level-next-requires t c = let p = c.requires in
-    (p.0.turned, (top p.0 p.1 p.2 p.3 c.if-f.false c.if-f-2.false c.earlier.ensures c.earlier-top.ensures c.flag_at-flag.ensures).0)
+    (top p.0 p.1 p.2 p.3 c.if-f.false c.if-f-2.false c.earlier.ensures c.earlier-top.ensures c.flag_at-flag.ensures).0
 
 pub overflow_add-next : goal.overflow_add-next
 overflow_add-next t c = let p = c.requires in
@@ -40,16 +39,7 @@ overflow_add-next t c = let p = c.requires in
     let d = c.earlier.ensures in
     let e = c.earlier-top.ensures in
     let q = c.flag_at-flag.ensures in
-    omega (arith, c.level-next.ensures, p.0.turned.few, (top p.0 p.1 p.2 p.3 no_is yes_is d e q).2)
-
-pub both_branches-fs-requires : goal.both_branches-fs-requires
-both_branches-fs-requires t c = let p = c.requires in omega (arith, p.1.node, p.0.is_sound.fits)
-
-pub both_branches-gs-requires : goal.both_branches-gs-requires
-both_branches-gs-requires t c = let p = c.requires in omega (arith, p.2.node, p.0.is_sound.fits)
-
-pub both_branches-hs-requires : goal.both_branches-hs-requires
-both_branches-hs-requires t c = let p = c.requires in omega (arith, p.3.node, p.0.is_sound.fits)
+    omega (arith, c.level-next.ensures, c.args.levels.few, (top p.0 p.1 p.2 p.3 no_is yes_is d e q).2)
 
 pub choose_nodes-no-requires : goal.choose_nodes-no-requires
 choose_nodes-no-requires t c = let p = c.requires in
@@ -76,26 +66,18 @@ choose_nodes-yes-requires t c = let p = c.requires in
     let (f, g, h) = high_from p.0 p.1 p.2 p.3 no_is yes_is d e q a c.both_branches-fs.ensures.1 c.both_branches-gs.ensures.1 c.both_branches-hs.ensures.1 k in
     (omega (arith, c.decreases, from, less, k), (grown_ready p.0 a, f, g, h))
 
-pub make_above-requires : goal.make_above-requires
-make_above-requires t c = let a = grown_ready c.requires.0 c.choose_nodes-no.ensures in
-    let b = grown_ready a c.choose_nodes-yes.ensures in
-    (b.is_sound.fits, b.small, b.indexed)
-
-pub returns-in-Full : goal.returns-in-Full
-returns-in-Full t c = let p = c.requires in
+pub returns-in_default : goal.returns-in_default
+returns-in_default t c = let p = c.requires in
     let no_is = c.if-f.false in
     let yes_is = c.if-f-2.false in
     let d = c.earlier.ensures in
     let e = c.earlier-top.ensures in
     let q = c.flag_at-flag.ensures in
     full_low (choose_split p.0 p.1 p.2 p.3 no_is yes_is d e q) (top p.0 p.1 p.2 p.3 no_is yes_is d e q).1
-    (low_rule p.0 p.1 p.2 p.3 no_is yes_is d e q c.both_branches-fs.ensures.0 c.both_branches-gs.ensures.0 c.both_branches-hs.ensures.0) c.choose_nodes-no.ensures c.in-Full.is
+    (low_rule p.0 p.1 p.2 p.3 no_is yes_is d e q c.both_branches-fs.ensures.0 c.both_branches-gs.ensures.0 c.both_branches-hs.ensures.0) c.choose_nodes-no.ensures c.in_default.is
 
-pub shape_of-cells-in-At : goal.shape_of-cells-in-At
-shape_of-cells-in-At t c = search (rules, c.make_above, c.choose_nodes-yes, c.choose_nodes-no)
-
-pub returns-in-At : goal.returns-in-At
-returns-in-At t c = let p = c.requires in
+pub returns : goal.returns
+returns t c = let p = c.requires in
     let no_is = c.if-f.false in
     let yes_is = c.if-f-2.false in
     let d = c.earlier.ensures in
@@ -109,4 +91,4 @@ returns-in-At t c = let p = c.requires in
     made (choose_split p.0 p.1 p.2 p.3 no_is yes_is d e q) (top p.0 p.1 p.2 p.3 no_is yes_is d e q).1
     (low_rule p.0 p.1 p.2 p.3 no_is yes_is d e q f.0 g.0 h.0) a
     (high_rule p.0 p.1 p.2 p.3 no_is yes_is d e q a f.1 g.1 h.1) c.choose_nodes-yes.ensures
-    (omega (arith, k)) (omega (arith, k)) c.in-At.is c.make_above.ensures
+    (omega (arith, k)) (omega (arith, k)) c.in-Some.is c.make_above.ensures

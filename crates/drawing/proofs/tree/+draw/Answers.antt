@@ -7,22 +7,12 @@ use Rattle.drawing.proofs.Branches.{leaf, flag_lt, split, branch_rule, first, se
 use Rattle.unique.proofs.Branches.{no_room_low, both_branches}
 use Rattle.drawing.proofs.tree.+draw.Goals as goal
 
-pub bounds-table-row : goal.bounds-table-row
-bounds-table-row t c = let g = c.requires.0 in omega (arith, g.rows, g.row_fits)
-
-pub end_node-end-requires : goal.end_node-end-requires
-end_node-end-requires t c = omega (arith, row_lt _ c.requires.0.bits c.args.row)
+pub end_node-requires : goal.end_node-requires
+end_node-requires t c = omega (arith, row_lt _ c.requires.0.bits c.args.row)
 
 pub returns-then-n-at : goal.returns-then-n-at
 returns-then-n-at t c = let p = c.requires in
-    (rw c.end_node-end.ensures (leaf p.0 c.if-n-at.true), p.1)
-
-pub bounds-order-at : goal.bounds-order-at
-bounds-order-at t c = omega (arith, c.requires.0.few)
-
-pub overflow_cast-flag-2 : goal.overflow_cast-flag-2
-overflow_cast-flag-2 t c = let g = c.requires.0 in
-    omega (arith, flag_lt g c.if-n-at.false, g.few)
+    (rw c.end_node.ensures (leaf p.0 c.if-n-at.true), p.1)
 
 pub set_bit-no-requires : goal.set_bit-no-requires
 set_bit-no-requires t c = let g = c.requires.0 in (
@@ -46,19 +36,15 @@ pub draw-second-requires : goal.draw-second-requires
 draw-second-requires t c = let h = c.if-n-at.false in
     (omega (arith, c.decreases), (second c.requires.0 h _ _ c.set_bit-yes.ensures c.draw-first.ensures.0, c.draw-first.ensures.1))
 
-pub make_above-requires : goal.make_above-requires
-make_above-requires t c = let g = c.requires.0 in
-    (c.draw-second.ensures.0.grows.is_sound.fits, omega (arith, g.small, c.draw-first.ensures.0.grows.lent, c.draw-second.ensures.0.grows.lent), c.draw-second.ensures.1)
-
-pub returns-in-Full : goal.returns-in-Full
-returns-in-Full t c = let g = c.requires.0 in
+pub returns-in-None : goal.returns-in-None
+returns-in-None t c = let g = c.requires.0 in
     let h = c.if-n-at.false in
-    (no_room_low (split g h) (branch_rule g h 0 _ (omega arith) c.set_bit-no.ensures) c.in-Full.is c.draw-first.ensures.0, c.draw-first.ensures.1)
+    (no_room_low (split g h) (branch_rule g h 0 _ (omega arith) c.set_bit-no.ensures) c.in-None.is c.draw-first.ensures.0, c.draw-first.ensures.1)
 
-pub returns-in-At : goal.returns-in-At
-returns-in-At t c = let g = c.requires.0 in
+pub returns-in-Some : goal.returns-in-Some
+returns-in-Some t c = let g = c.requires.0 in
     let h = c.if-n-at.false in (
       both_branches (split g h) (branch_rule g h 0 _ (omega arith) c.set_bit-no.ensures) (branch_rule g h 1 _ (omega arith) c.set_bit-yes.ensures)
-          c.draw-first.ensures.0 c.draw-second.ensures.0 (omega arith) (omega arith) c.in-At.is c.make_above.ensures.0,
+          c.draw-first.ensures.0 c.draw-second.ensures.0 (omega arith) (omega arith) c.in-Some.is c.make_above.ensures.0,
       c.make_above.ensures.1,
     )

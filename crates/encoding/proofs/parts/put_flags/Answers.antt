@@ -2,7 +2,6 @@
 -- Assumes nothing.
 use native.Mathlib.Nat.{sub-zero}
 use native.Mathlib.Omega.{arith}
-use Rattle.theory.proofs.Times.{ten}
 use Rattle.encoding.proofs.parts.put_flags.Goals as goal
 
 pub slice_bounds-put_run-end : goal.slice_bounds-put_run-end

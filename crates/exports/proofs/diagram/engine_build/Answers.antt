@@ -3,10 +3,10 @@
 use Rattle.rule.specs.Answers.{drawn_reply}
 use Rattle.exports.proofs.diagram.engine_build.Goals as goal
 
-pub returns-in-Diagram : goal.returns-in-Diagram
-returns-in-Diagram c =
-    (drawn_reply c.build.result, c.build.ensures, rw c.in-Diagram.is c.answer.ensures)
+pub returns-in-Ok : goal.returns-in-Ok
+returns-in-Ok c =
+    (drawn_reply c.build.result, c.build.ensures, rw c.in-Ok.is c.answer.ensures)
 
-pub returns-in-Refused : goal.returns-in-Refused
-returns-in-Refused c =
-    (drawn_reply c.build.result, c.build.ensures, rw c.in-Refused.is c.answer-in-Refused.ensures)
+pub returns-in-Err : goal.returns-in-Err
+returns-in-Err c =
+    (drawn_reply c.build.result, c.build.ensures, rw c.in-Err.is (rw c.number.ensures at c.answer-in-Err.ensures))

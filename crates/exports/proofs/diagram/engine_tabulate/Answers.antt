@@ -3,10 +3,10 @@
 use Rattle.rule.specs.Answers.{done_reply}
 use Rattle.exports.proofs.diagram.engine_tabulate.Goals as goal
 
-pub returns-in-Accepted : goal.returns-in-Accepted
-returns-in-Accepted c =
-    (done_reply c.tabulate.result, c.tabulate.ensures, rw c.in-Accepted.is c.answer.ensures)
+pub returns-in-Ok : goal.returns-in-Ok
+returns-in-Ok c =
+    (done_reply c.tabulate.result, c.tabulate.ensures, rw c.in-Ok.is c.answer.ensures)
 
-pub returns-in-Refused : goal.returns-in-Refused
-returns-in-Refused c =
-    (done_reply c.tabulate.result, c.tabulate.ensures, rw c.in-Refused.is c.answer-in-Refused.ensures)
+pub returns-in-Err : goal.returns-in-Err
+returns-in-Err c =
+    (done_reply c.tabulate.result, c.tabulate.ensures, rw c.in-Err.is (rw c.number.ensures at c.answer-in-Err.ensures))

@@ -3,10 +3,10 @@
 use Rattle.rule.specs.Answers.{said_reply}
 use Rattle.exports.proofs.diagram.walk.Goals as goal
 
-pub returns-in-Answer : goal.returns-in-Answer
-returns-in-Answer c =
-    (said_reply c.walk.result, c.walk.ensures, rw c.in-Answer.is c.walked.ensures)
+pub returns-in-Ok : goal.returns-in-Ok
+returns-in-Ok c =
+    (said_reply c.walk.result, c.walk.ensures, rw c.in-Ok.is c.walked.ensures)
 
-pub returns-in-Refused : goal.returns-in-Refused
-returns-in-Refused c =
-    (said_reply c.walk.result, c.walk.ensures, rw c.in-Refused.is c.answer.ensures)
+pub returns-in-Err : goal.returns-in-Err
+returns-in-Err c =
+    (said_reply c.walk.result, c.walk.ensures, rw c.in-Err.is (rw c.number.ensures at c.answer.ensures))

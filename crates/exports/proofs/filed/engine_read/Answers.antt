@@ -4,10 +4,10 @@ use mathlib.Core.Path.{refl}
 use Rattle.rule.specs.Answers.{loaded_reply}
 use Rattle.exports.proofs.filed.engine_read.Goals as goal
 
-pub returns-in-Rule : goal.returns-in-Rule
-returns-in-Rule c =
-    (loaded_reply c.read-read.result.order c.read-read.result.answer, c.read-read.ensures, rw c.in-Rule.is c.loaded.ensures, rw c.in-Rule.is refl)
+pub returns-in-Ok : goal.returns-in-Ok
+returns-in-Ok c =
+    (loaded_reply c.read.result, c.read.ensures, rw c.in-Ok.is c.loaded.ensures, rw c.in-Ok.is refl)
 
-pub returns-in-Refused : goal.returns-in-Refused
-returns-in-Refused c =
-    (loaded_reply c.read-read.result.order c.read-read.result.answer, c.read-read.ensures, rw c.in-Refused.is c.answer.ensures, rw c.in-Refused.is refl)
+pub returns-in-Err : goal.returns-in-Err
+returns-in-Err c =
+    (loaded_reply c.read.result, c.read.ensures, rw c.in-Err.is (rw c.number.ensures at c.answer.ensures), rw c.in-Err.is refl)

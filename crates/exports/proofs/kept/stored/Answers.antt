@@ -2,8 +2,8 @@
 -- Assumes nothing.
 use Rattle.exports.proofs.kept.stored.Goals as goal
 
-pub returns-in-Rule : goal.returns-in-Rule
-returns-in-Rule c = rw c.in-Rule.is c.answer.ensures
+pub returns-in-Ok : goal.returns-in-Ok
+returns-in-Ok c = rw c.in-Ok.is c.answer.ensures
 
-pub returns-in-Refused : goal.returns-in-Refused
-returns-in-Refused c = rw c.in-Refused.is c.answer-in-Refused.ensures
+pub returns-in-Err : goal.returns-in-Err
+returns-in-Err c = rw c.in-Err.is (rw c.number.ensures at c.answer-in-Err.ensures)

@@ -4,10 +4,10 @@ use mathlib.Core.Path.{refl}
 use Rattle.rule.specs.Answers.{packed_reply}
 use Rattle.exports.proofs.packed.engine_pack.Goals as goal
 
-pub returns-in-Diagram : goal.returns-in-Diagram
-returns-in-Diagram c =
-    (packed_reply c.pack-packed.result.order c.pack-packed.result.answer, c.pack-packed.ensures, rw c.in-Diagram.is c.answer.ensures, rw c.in-Diagram.is refl)
+pub returns-in-Ok : goal.returns-in-Ok
+returns-in-Ok c =
+    (packed_reply c.pack.result, c.pack.ensures, rw c.in-Ok.is c.answer.ensures, rw c.in-Ok.is refl)
 
-pub returns-in-Refused : goal.returns-in-Refused
-returns-in-Refused c =
-    (packed_reply c.pack-packed.result.order c.pack-packed.result.answer, c.pack-packed.ensures, rw c.in-Refused.is c.answer-in-Refused.ensures, rw c.in-Refused.is refl)
+pub returns-in-Err : goal.returns-in-Err
+returns-in-Err c =
+    (packed_reply c.pack.result, c.pack.ensures, rw c.in-Err.is (rw c.number.ensures at c.answer-in-Err.ensures), rw c.in-Err.is refl)

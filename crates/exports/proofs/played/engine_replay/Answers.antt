@@ -4,10 +4,10 @@ use mathlib.Core.Path.{refl}
 use Rattle.tallying.specs.Tally.{tallied_reply}
 use Rattle.exports.proofs.played.engine_replay.Goals as goal
 
-pub returns-in-Accepted : goal.returns-in-Accepted
-returns-in-Accepted c =
-    (tallied_reply c.replay-replayed.result.tally c.replay-replayed.result.answer, c.replay-replayed.ensures, rw c.in-Accepted.is c.tallied.ensures, rw c.in-Accepted.is refl)
+pub returns-in-Ok : goal.returns-in-Ok
+returns-in-Ok c =
+    (tallied_reply c.replay.result, c.replay.ensures, rw c.in-Ok.is c.tallied.ensures, rw c.in-Ok.is refl)
 
-pub returns-in-Refused : goal.returns-in-Refused
-returns-in-Refused c =
-    (tallied_reply c.replay-replayed.result.tally c.replay-replayed.result.answer, c.replay-replayed.ensures, rw c.in-Refused.is c.tallied-in-Refused.ensures, rw c.in-Refused.is refl)
+pub returns-in-Err : goal.returns-in-Err
+returns-in-Err c =
+    (tallied_reply c.replay.result, c.replay.ensures, rw c.in-Err.is (rw c.number.ensures at c.answer.ensures), rw c.in-Err.is refl)

@@ -2,14 +2,10 @@
 -- Assumes nothing.
 use mathlib.Core.Path.{◌≡◌}
 use mathlib.Core.List.{map}
-use Prim.Native.Nat.{◌-◌, ◌≤◌}
 use Rattle.rule.specs.Bits.{below}
 use Rattle.rule.specs.Cells.{laid_in}
 use Rattle.rule.specs.Files.{record_at}
 use Rattle.laying.proofs.records.lay.Given as goal
 
 abbrev pub invariant-loop-k : goal.invariant-loop-k
-invariant-loop-k l = (l.k ≤ l.count) × (l.cells ≡ laid_in l.initial.cells (map (record_at l.file l.start) (below l.k)))
-
-abbrev pub decreases-loop-k : goal.decreases-loop-k
-decreases-loop-k l = l.count - l.k
+invariant-loop-k l = l.cells ≡ laid_in l.initial.cells (map (record_at l.file l.start) (below l.k))

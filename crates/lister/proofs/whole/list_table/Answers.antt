@@ -14,7 +14,7 @@ put_report-requires c =
     let n = c.args.n in
     let t = c.args.table.now in
     let pre = c.requires in
-    let packed = rw c.in-Diagram.is at c.pack-packed.ensures in
+    let packed = c.in-Ok.ensures in
     let cs = length-replicate {A = ℕ} most_cells 0 in
     let ws = length-replicate {A = ℕ} workspace_cells 0 in (
       packed_few n t _ _ pre.0 pre.1 pre.2 cs ws packed,
@@ -23,17 +23,19 @@ put_report-requires c =
       omega (arith, pre.3),
     )
 
-pub returns-in-Refused : goal.returns-in-Refused
+pub returns-in-Err : goal.returns-in-Err
 unfolding text
-returns-in-Refused c =
+returns-in-Err c =
     let pre = c.requires in
-    let packed = rw c.in-Refused.is at c.pack-packed.ensures in
-    rw (← pack_refused c.args.n c.args.table.now _ _ pre.0 pre.1 pre.2 (length-replicate {A = ℕ} most_cells 0) (length-replicate {A = ℕ} workspace_cells 0) packed)
+    rw (
+      ← pack_refused c.args.n c.args.table.now _ _ pre.0 pre.1 pre.2 (length-replicate {A = ℕ} most_cells 0) (length-replicate {A = ℕ} workspace_cells 0)
+          c.in-Err.ensures,
+      ← c.number.ensures,
+    )
     c.put_line.ensures.0
 
-pub returns-in-Diagram : goal.returns-in-Diagram
-returns-in-Diagram c =
+pub returns-in-Ok : goal.returns-in-Ok
+returns-in-Ok c =
     let pre = c.requires in
-    let packed = rw c.in-Diagram.is at c.pack-packed.ensures in
-    rw (← pack_listed c.args.n c.args.table.now _ _ pre.0 pre.1 pre.2 (length-replicate {A = ℕ} most_cells 0) (length-replicate {A = ℕ} workspace_cells 0) packed)
+    rw (← pack_listed c.args.n c.args.table.now _ _ pre.0 pre.1 pre.2 (length-replicate {A = ℕ} most_cells 0) (length-replicate {A = ℕ} workspace_cells 0) c.in-Ok.ensures)
     c.put_report.ensures

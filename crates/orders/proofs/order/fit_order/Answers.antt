@@ -10,4 +10,4 @@ returns-then-each_once c = c.rest_zero.ensures ∙ rw (sym c.each_once.ensures �
 
 pub returns-else-each_once : goal.returns-else-each_once
 unfolding fit_order
-returns-else-each_once c = rw (sym c.each_once.ensures ∙ c.if-each_once.false)
+returns-else-each_once c = c.if-each_once.false ∙ rw (sym c.each_once.ensures ∙ c.if-each_once.false)

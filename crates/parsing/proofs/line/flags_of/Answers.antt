@@ -19,5 +19,4 @@ loop-n-preserved c =
 
 pub returns : goal.returns
 returns c =
-    let at = c.loop-n in
-    (flags-none at.n _ c.loop-n-test.false at.invariant, at.invariant.0)
+    (flags-none c.loop-n.n _ (omega arith) c.loop-n.invariant, omega arith)

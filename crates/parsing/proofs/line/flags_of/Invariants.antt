@@ -1,11 +1,7 @@
 -- `parsing::line::flags_of` meets its contract: none of the powers passed is the number of rows.
 -- Assumes nothing.
-use Prim.Native.Nat.{◌-◌}
 use Rattle.parsing.proofs.FirstLine.{Passed}
 use Rattle.parsing.proofs.line.flags_of.Given as goal
 
 abbrev pub invariant-loop-n : goal.invariant-loop-n
 invariant-loop-n l = Passed l.n l.rows
-
-abbrev pub decreases-loop-n : goal.decreases-loop-n
-decreases-loop-n l = 11 - l.n

@@ -1,23 +1,12 @@
--- `parsing::line::line_end` meets its contract: no byte passed ends the line.
+-- `parsing::line::line_end` meets its contract: the place is that of the first byte that ends a line, or the length.
 -- Assumes nothing.
-use native.Mathlib.Nat.{not-suc-le-zero}
-use native.Mathlib.Omega.{arith}
-use borrow.Author.Rules.{rules}
-use Rattle.parsing.proofs.FirstLine.{open_more, line_to, line_whole}
+use Rattle.std.proofs.Common.{rules}
+use Rattle.std.proofs.iter.runs.Made.{chains}
+use Rattle.parsing.proofs.FirstLine.{FirstEnd, line_found}
 use Rattle.parsing.proofs.line.line_end.Goals as goal
-
-pub loop-i-init : goal.loop-i-init
-loop-i-init c = (omega arith, λ k h. absurd (not-suc-le-zero h))
-
-pub returns-then-input-i-eq10 : goal.returns-then-input-i-eq10
-returns-then-input-i-eq10 c =
-    let at = c.loop-i in
-    (at.invariant.0, line_to _ at.i (search rules) at.invariant.1 c.if-input-i-eq10.true)
-
-pub loop-i-preserved : goal.loop-i-preserved
-loop-i-preserved c = (search rules, open_more c.args.input.now _ c.loop-i.invariant.1 c.if-input-i-eq10.false)
 
 pub returns : goal.returns
 returns c =
-    let at = c.loop-i in
-    (at.invariant.0, line_whole _ at.i c.loop-i-test.false at.invariant.0 at.invariant.1)
+    let input = c.args.input.now in
+    let found : FirstEnd input c.position.result = search (rules, chains) in
+    rw c.unwrap_or.ensures (line_found input c.position.result found)

@@ -20,15 +20,15 @@ loop-page-init c = (omega arith, c.pages-count.ensures, refl, puts_none _ _, ome
 pub put_page-next-requires : goal.put_page-next-requires
 put_page-next-requires c =
     let (le, count, long, _, next) = c.loop-page.invariant in
-    let few = pages_le c.args.used c.requires.0.few in
-    (c.requires.0, omega arith, omega (arith, c.requires.1))
+    let few = pages_le c.args.records.now.used c.args.records.now.printable.few in
+    (omega arith, omega (arith, c.requires))
 
 pub loop-page-preserved : goal.loop-page-preserved
 loop-page-preserved c =
     let (le, count, long, pages, next) = c.loop-page.invariant in
     let place : c.put_page-next.result ≡ (c.loop-page.page + 1) * page_bytes = omega (arith, c.put_page-next.ensures.1) in
-    let fits : c.put_page-next.result ≤ length c.args.bytes.now = omega (arith, c.requires.1) in
-    (omega arith, count, search rules, puts_next (page_of (line_of c.args.cells.now c.args.used)) c.loop-page.page fits pages c.put_page-next.ensures.0, place)
+    let fits : c.put_page-next.result ≤ length c.args.bytes.now = omega (arith, c.requires) in
+    (omega arith, count, search rules, puts_next (page_of (line_of c.args.records.now.cells.now c.args.records.now.used)) c.loop-page.page fits pages c.put_page-next.ensures.0, place)
 
 pub returns : goal.returns
 unfolding sheet sheet_lines

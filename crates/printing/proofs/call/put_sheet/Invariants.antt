@@ -2,7 +2,7 @@
 -- Assumes nothing.
 use mathlib.Core.Path.{◌≡◌}
 use mathlib.Core.List.{flat_map}
-use Prim.Native.Nat.{◌*◌, ◌-◌, ◌≤◌}
+use Prim.Native.Nat.{◌*◌, ◌≤◌}
 use lib.ListN.{length}
 use Rattle.rule.specs.Bits.{below}
 use Rattle.rule.specs.Sheet.{line_of, page_of, page_bytes, pages_for, ended}
@@ -11,8 +11,5 @@ use Rattle.printing.proofs.call.put_sheet.Given as goal
 
 abbrev pub invariant-loop-page : goal.invariant-loop-page
 invariant-loop-page l =
-    (l.page ≤ l.count) × (l.count ≡ pages_for l.used) × (length l.bytes ≡ length l.initial.bytes)
-    × Puts l.initial.bytes 0 (flat_map ended (flat_map (page_of (line_of l.cells l.used)) (below l.page))) l.next l.bytes × (l.next ≡ l.page * page_bytes)
-
-abbrev pub decreases-loop-page : goal.decreases-loop-page
-decreases-loop-page l = l.count - l.page
+    (l.page ≤ l.count) × (l.count ≡ pages_for l.records.used) × (length l.bytes ≡ length l.initial.bytes)
+    × Puts l.initial.bytes 0 (flat_map ended (flat_map (page_of (line_of l.records.cells.now l.records.used)) (below l.page))) l.next l.bytes × (l.next ≡ l.page * page_bytes)

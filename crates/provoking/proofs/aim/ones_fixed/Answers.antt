@@ -2,27 +2,22 @@
 -- Assumes nothing.
 use Prim.Native.Nat.{◌<◌}
 use mathlib.Core.Path.{sym}
-use native.Mathlib.Nat.{not-suc-le-zero}
 use native.Mathlib.Omega.{arith}
 use borrow.Author.Count.{below_more}
-use borrow.Author.Rules.{rules}
 use Rattle.rule.specs.Bits.{bit}
 use Rattle.theory.proofs.Bits.{bit_lt}
 use Rattle.theory.proofs.Fixed.{fixed_each, one_outside}
 use Rattle.provoking.proofs.aim.ones_fixed.Goals as goal
-
-pub loop-i-init : goal.loop-i-init
-loop-i-init c = (omega arith, λ k h. absurd (not-suc-le-zero h))
 
 pub returns-then-bit : goal.returns-then-bit
 returns-then-bit c =
     let a = c.args in
     let i = c.loop-i.i in
     let h : bit a.fixed i < bit a.ones i = omega (arith, c.bit.ensures, c.bit-in-loop-i.ensures, c.if-bit.true) in
-    sym (one_outside a.fixed a.ones i (omega (arith, c.loop-i-test.true)) (omega (arith, h, bit_lt a.ones i)) (omega (arith, h, bit_lt a.ones i)))
+    sym (one_outside a.fixed a.ones i (omega arith) (omega (arith, h, bit_lt a.ones i)) (omega (arith, h, bit_lt a.ones i)))
 
 pub loop-i-preserved : goal.loop-i-preserved
-loop-i-preserved c = (search rules, below_more _ _ c.loop-i.invariant.1 (omega (arith, c.bit.ensures, c.bit-in-loop-i.ensures, c.if-bit.false)))
+loop-i-preserved c = below_more _ _ c.loop-i.invariant (omega (arith, c.bit.ensures, c.bit-in-loop-i.ensures, c.if-bit.false))
 
 pub returns : goal.returns
-returns c = sym (fixed_each _ _ (λ i h one. omega (arith, one, c.loop-i.invariant.1 i (omega (arith, h, c.loop-i-test.false)), bit_lt c.args.fixed i)))
+returns c = sym (fixed_each _ _ (λ i h one. omega (arith, one, c.loop-i.invariant i (omega arith), bit_lt c.args.fixed i)))

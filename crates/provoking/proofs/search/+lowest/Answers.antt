@@ -19,10 +19,6 @@ returns-then-both_ends t c = own_row c.requires _ c.if-pass-eq0.false (sym c.nev
 pub bounds-order-at : goal.bounds-order-at
 bounds-order-at t c = omega (arith, c.requires.few, flag_left c.requires (sym c.both_ends.ensures ∙ c.if-both_ends.false))
 
-pub overflow_cast-flag-2 : goal.overflow_cast-flag-2
-overflow_cast-flag-2 t c = let h = flag_left c.requires (sym c.both_ends.ensures ∙ c.if-both_ends.false) in
-    omega (arith, flag_lt c.requires h, c.requires.few)
-
 pub bit-value-requires : goal.bit-value-requires
 bit-value-requires t c = let h = flag_left c.requires (sym c.both_ends.ensures ∙ c.if-both_ends.false) in
     omega (arith, flag_lt c.requires h, c.requires.few)
@@ -30,12 +26,6 @@ bit-value-requires t c = let h = flag_left c.requires (sym c.both_ends.ensures �
 pub set_bit-settled-requires : goal.set_bit-settled-requires
 set_bit-settled-requires t c = let h = flag_left c.requires (sym c.both_ends.ensures ∙ c.if-both_ends.false) in
     (omega (arith, c.requires.fixed_fits, pow_mono c.requires.few), omega (arith, flag_lt c.requires h, c.requires.few), omega arith)
-
-pub branch-m-requires : goal.branch-m-requires
-branch-m-requires t c = let s = c.requires in omega (arith, s.rule_node, s.is_sound.fits)
-
-pub branch-p-requires : goal.branch-p-requires
-branch-p-requires t c = let s = c.requires in omega (arith, s.pass_node_lem, s.is_sound.fits)
 
 pub overflow_add-below : goal.overflow_add-below
 overflow_add-below t c = let h = flag_left c.requires (sym c.both_ends.ensures ∙ c.if-both_ends.false) in
@@ -64,12 +54,6 @@ returns-then-here-next t c = let h = flag_left c.requires (sym c.both_ends.ensur
     let here = found_as c.branch-m.ensures c.branch-p.ensures c.set_bit-settled.ensures refl c.lowest-here.ensures in
     let value = c.bit-value.ensures in
     low_way c.requires _ h value here (λ e. c.if-bit-eq1.false (c.bit.ensures ∙ e)) c.set_bit-next.ensures (omega (arith, c.if-here-next.true, at_most c.requires.few c.lowest-here.ensures))
-
-pub branch-m-requires-2 : goal.branch-m-requires-2
-branch-m-requires-2 t c = let s = c.requires in omega (arith, s.rule_node, s.is_sound.fits)
-
-pub branch-p-requires-2 : goal.branch-p-requires-2
-branch-p-requires-2 t c = let s = c.requires in omega (arith, s.pass_node_lem, s.is_sound.fits)
 
 pub lowest-there-requires : goal.lowest-there-requires
 lowest-there-requires t c = let h = flag_left c.requires (sym c.both_ends.ensures ∙ c.if-both_ends.false) in

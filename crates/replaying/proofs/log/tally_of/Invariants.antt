@@ -1,12 +1,7 @@
 -- `replaying::log::tally_of` meets its contract: the snapshots before i are tallied.
 -- Assumes nothing.
-use Prim.Native.Nat.{◌-◌, ◌/◌}
-use lib.ListN.{length}
 use Rattle.replaying.proofs.Tallied.{Tallied}
 use Rattle.replaying.proofs.log.tally_of.Given as goal
 
 abbrev pub invariant-loop-i : goal.invariant-loop-i
 invariant-loop-i l = Tallied l.cells l.node l.log l.i l.tally l.last
-
-abbrev pub decreases-loop-i : goal.decreases-loop-i
-decreases-loop-i l = length l.log / 2 - l.i

@@ -1,8 +1,6 @@
 -- `report::lines::put_flags` meets its contract: the lines of the flags passed are written.
 -- Assumes nothing.
-use mathlib.Core.Path.{◌≡◌}
-use Prim.Native.Nat.{◌+◌, ◌*◌, ◌-◌, ◌≤◌}
-use lib.ListN.{length}
+use Prim.Native.Nat.{◌+◌, ◌*◌, ◌≤◌}
 use Rattle.rule.specs.Bits.{below}
 use Rattle.rule.specs.Diagram.{asking}
 use Rattle.rule.specs.Listing.{flag_lines}
@@ -11,7 +9,4 @@ use Rattle.report.proofs.lines.put_flags.Given as goal
 
 abbrev pub invariant-loop-v : goal.invariant-loop-v
 invariant-loop-v l =
-    (l.v ≤ l.n) × (length l.out ≡ length l.initial.out) × Puts l.initial.out l.at (flag_lines (asking l.cells l.used) (below l.v)) l.next l.out × (l.next ≤ l.at + l.v * 17)
-
-abbrev pub decreases-loop-v : goal.decreases-loop-v
-decreases-loop-v l = l.n - l.v
+    Puts l.initial.out l.at (flag_lines (asking l.cells l.used) (below l.v)) l.next l.out × (l.next ≤ l.at + l.v * 17)

@@ -2,7 +2,7 @@
 -- Assumes nothing.
 use mathlib.Core.Path.{◌≡◌}
 use mathlib.Core.List.{flat_map}
-use Prim.Native.Nat.{◌+◌, ◌*◌, ◌-◌, ◌≤◌}
+use Prim.Native.Nat.{◌+◌, ◌*◌, ◌≤◌}
 use lib.ListN.{length, take}
 use Rattle.rule.specs.RigTally.{number_line}
 use Rattle.runs.specs.Run.{Puts}
@@ -11,6 +11,3 @@ use Rattle.rig_tally.proofs.lines.put_asked.Given as goal
 abbrev pub invariant-loop-v : goal.invariant-loop-v
 invariant-loop-v l =
     (l.v ≤ l.n) × (length l.out ≡ length l.initial.out) × Puts l.initial.out l.at (flat_map number_line (take l.v l.asked)) l.next l.out × (l.next ≤ l.at + l.v * 6) × (length l.asked ≡ 10)
-
-abbrev pub decreases-loop-v : goal.decreases-loop-v
-decreases-loop-v l = l.n - l.v

@@ -3,11 +3,7 @@
 use Rattle.rule.specs.Text.{text}
 use Rattle.rig_tally.proofs.lines.put_tallied.Goals as goal
 
-pub returns-in-Refused : goal.returns-in-Refused
+pub returns-in-Err : goal.returns-in-Err
 unfolding text
-returns-in-Refused c =
-    rw c.in-Refused.is c.put_line.ensures.0
-
-pub returns-in-Accepted : goal.returns-in-Accepted
-returns-in-Accepted c =
-    rw c.in-Accepted.is c.put_tally.ensures
+returns-in-Err c =
+    rw (c.in-Err.is, ← c.number.ensures) c.put_line.ensures.0

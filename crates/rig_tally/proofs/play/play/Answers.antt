@@ -6,16 +6,16 @@ use Rattle.rule.specs.Cells.{most_cells}
 use Rattle.rig_tally.proofs.Drawn.{never_refused, plays}
 use Rattle.rig_tally.proofs.play.play.Goals as goal
 
-pub returns-in-Refused : goal.returns-in-Refused
-returns-in-Refused c =
+pub returns-in_err-drawn : goal.returns-in_err-drawn
+returns-in_err-drawn c =
     let pre = c.requires in
-    let built = rw (c.rising-order.ensures, c.in-Refused.is) at c.build.ensures in
+    let built = rw c.rising-order.ensures at c.in_err-drawn.ensures in
     absurd (never_refused c.args.n c.args.table.now _ pre.0 pre.1 pre.2 (length-replicate {A = ℕ} most_cells 0) built)
 
-pub returns-in-Diagram : goal.returns-in-Diagram
-returns-in-Diagram c =
+pub returns : goal.returns
+returns c =
     let pre = c.requires in
     let rising = c.rising-order.ensures in
-    let built = rw (rising, c.in-Diagram.is) at c.build.ensures in
+    let built = rw rising at c.in_ok-drawn.ensures in
     plays c.args.n c.args.table.now _ pre.0 pre.1 pre.2 (length-replicate {A = ℕ} most_cells 0) built
     (rw rising at c.replay.ensures)

@@ -1,11 +1,7 @@
--- `script::draw::cell_sum` meets its contract: it counts up to the cells, and the sum stays below 65,521.
+-- `script::draw::cell_sum` meets its contract: the sum stays below the modulus.
 -- Assumes nothing.
-use Prim.Native.Nat.{◌-◌, ◌<◌, ◌≤◌}
-use lib.ListN.{length}
+use Rattle.std.proofs.Common.{◌<◌}
 use Rattle.script.proofs.draw.cell_sum.Given as goal
 
-abbrev pub invariant-loop-i : goal.invariant-loop-i
-invariant-loop-i l = (l.sum < 65521) × (l.i ≤ length l.cells)
-
-abbrev pub decreases-loop-i : goal.decreases-loop-i
-decreases-loop-i l = length l.cells - l.i
+abbrev pub invariant-loop-cell : goal.invariant-loop-cell
+invariant-loop-cell l = l.sum < 65521

@@ -1,11 +1,7 @@
--- `sessions::ending::rows_sum` meets its contract: the sum stays below 65,521.
+-- `sessions::ending::rows_sum` meets its contract: the sum stays below what it is taken by.
 -- Assumes nothing.
-use Prim.Native.Nat.{◌-◌, ◌<◌, ◌≤◌}
-use lib.ListN.{length}
+use Prim.Native.Nat.{◌<◌}
 use Rattle.sessions.proofs.ending.rows_sum.Given as goal
 
 abbrev pub invariant-loop-r : goal.invariant-loop-r
-invariant-loop-r l = (l.sum < 65521) × (l.r ≤ length l.table)
-
-abbrev pub decreases-loop-r : goal.decreases-loop-r
-decreases-loop-r l = length l.table - l.r
+invariant-loop-r l = l.sum < 65521

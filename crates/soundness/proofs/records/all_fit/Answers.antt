@@ -10,15 +10,14 @@ use Rattle.soundness.proofs.Parts.{fitting_none, fitting_more, fitting_flags, fi
 use Rattle.soundness.proofs.records.all_fit.Goals as goal
 
 pub loop-k-init : goal.loop-k-init
-loop-k-init c = (fitting_none _ _ _ _, rw c.requires.3 (index_none _))
+loop-k-init c = (fitting_none _ _ _ _, rw c.requires.2 (index_none _))
 
 pub fit_record-requires : goal.fit_record-requires
 fit_record-requires c =
     let p = c.requires in
     record {
-      turned = p.0;
-      fits = omega (arith, p.1);
-      few = p.2;
+      fits = omega (arith, p.0);
+      few = p.1;
       flags = fitting_flags _ _ _ _ _ c.loop-k.invariant.0;
       indexed = c.loop-k.invariant.1;
     }
@@ -32,7 +31,7 @@ returns-then-not-fit_record c = (
 pub enter-requires : goal.enter-requires
 enter-requires c =
     let p = c.requires in
-    (omega (arith, p.1), p.2, c.loop-k.invariant.1)
+    (omega (arith, p.0), p.1, c.loop-k.invariant.1)
 
 pub loop-k-preserved : goal.loop-k-preserved
 loop-k-preserved c = (

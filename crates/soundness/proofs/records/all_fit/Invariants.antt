@@ -1,6 +1,5 @@
 -- `soundness::records::all_fit` meets its contract: each record passed is sound and entered.
 -- Assumes nothing.
-use Prim.Native.Nat.{◌-◌}
 use Rattle.rule.specs.Order.{flags}
 use Rattle.record_index.specs.Index.{Indexed}
 use Rattle.soundness.proofs.Parts.{Fitting}
@@ -9,6 +8,3 @@ use Rattle.soundness.proofs.records.all_fit.Given as goal
 abbrev pub invariant-loop-k : goal.invariant-loop-k
 invariant-loop-k l =
     Fitting l.levels.n (flags l.levels.n l.levels.order.places) l.cells l.used l.k × Indexed l.cells l.k l.index
-
-abbrev pub decreases-loop-k : goal.decreases-loop-k
-decreases-loop-k l = l.used - l.k

@@ -3,8 +3,8 @@
 use Rattle.unique.specs.Node.{above, none}
 use Rattle.unique.proofs.above.make_above.Goals as goal
 
-pub returns-in-Full : goal.returns-in-Full
-returns-in-Full c = (none c.in-Full.is, c.requires.2)
+pub returns-in-None : goal.returns-in-None
+returns-in-None c = (none c.in-None.is, c.requires.2)
 
-pub returns-in-At : goal.returns-in-At
-returns-in-At c = let m = c.make.ensures in (above c.in-At.is m.0, m.1)
+pub returns-in-Some : goal.returns-in-Some
+returns-in-Some c = let m = c.make.ensures in (above c.in-Some.is m.0, m.1)

@@ -11,14 +11,12 @@ use Rattle.unique.proofs.node.make.Goals as goal
 pub returns-then-low-high : goal.returns-then-low-high
 returns-then-low-high c = (child c.if-low-high.true, c.requires.2)
 
-pub returns-then-k-used : goal.returns-then-k-used
-returns-then-k-used c =
-    let found = c.find-k.ensures in
-    (old c.if-low-high.false _ c.if-k-used.true (found.there c.if-k-used.true), c.requires.2)
+pub returns-in-Some : goal.returns-in-Some
+returns-in-Some c = let found = c.in-Some.ensures in (old c.if-low-high.false _ found.0 found.1, c.requires.2)
 
 pub returns-then-room-used : goal.returns-then-room-used
 returns-then-room-used c =
-    (full c.if-low-high.false (c.find-k.ensures.none (omega (arith, c.find-k.ensures.most))) (omega arith), c.requires.2)
+    (full c.if-low-high.false c.in_default.ensures (omega arith), c.requires.2)
 
 pub enter-requires : goal.enter-requires
 enter-requires c =
@@ -28,6 +26,6 @@ enter-requires c =
 
 pub returns : goal.returns
 returns c = (
-  rw c.put.ensures (new c.if-low-high.false (c.find-k.ensures.none (omega (arith, c.find-k.ensures.most))) (omega arith)),
+  rw c.put.ensures (new c.if-low-high.false c.in_default.ensures (omega arith)),
   c.enter.ensures,
 )
