@@ -90,5 +90,8 @@ pub fn copy(src: &[u16], dst: &mut [u16])
     requires { length src.now ≡ length dst.old }
     ensures { dst.new ≡ src.now }
 {
-    dst.copy_from_slice(src);
+    // kept as a loop: `copy_from_slice` calls `memmove`, a name that the library for C did not need before.
+    for (i, cell) in src.iter().enumerate() {
+        dst[i] = *cell;
+    }
 }

@@ -62,7 +62,7 @@ module _ {S p a nodes ways : ℕ} {s d : List ℕ} (f : Foldable s p) (x : Count
       omega (arith, x.nodes_are, nodes_few f d e, shifted, few)
 
 -- and that is small
-asking-cost_most : (S v : ℕ) (s d : List ℕ) → Foldable s (place_of S v) → length s ≡ length d * 2 → set_size S ≤ 10 → asking_cost S v s d ≤ most_cost
+pub asking-cost_most : (S v : ℕ) (s d : List ℕ) → Foldable s (place_of S v) → length s ≡ length d * 2 → set_size S ≤ 10 → asking_cost S v s d ≤ most_cost
 unfolding asking_cost
 asking-cost_most S v s d f e h = omega (arith, nodes_few f d e, mul-le-mul (ways_few f) (pow_mono {i = set_size S} {j = 10} h))
 

@@ -1,7 +1,7 @@
-ghost use Rattle.std.specs.Prelude.{◌≡◌, get_or};
+ghost use Rattle.std.specs.Prelude.{◌≡◌, IfOk, get_or};
 ghost use Rattle.rule.specs.Bits.{bit};
-ghost use Rattle.rule.specs.Files.{flags_bit, field_if, file_map, read_flags};
-ghost use Rattle.cursor.specs.Step.{reading_of, Before, Leads, map_read};
+ghost use Rattle.rule.specs.Files.{flags_bit, and_then, field_if, file_map, read_flags};
+ghost use Rattle.cursor.specs.Step.{outcome_of, Before, Leads, map_read};
 
 use crate::place::Cursor;
 use rule::{FLAGS_BIT, MAP_END, Order, RECORDS_BIT, Refusal, YES_BIT};
@@ -34,12 +34,13 @@ pub fn read_map(file: &[u8]) -> Result<Cursor, Refusal>
     Ok(Cursor::start())
 }
 
-// Bit 0, n: 11, then 1.
+// Bit 0, n: 11, then 1. A step that is refused stays so.
 #[tactic(auto, using(crate::proofs::Stepped::entered), unfolding(rule::specs::Files::read_flags, rule::specs::Files::unless))]
-pub fn read_flags(file: &[u8], map: u16, cursor: Cursor) -> Result<Cursor, Refusal>
-    requires { Before file.now cursor }
-    ensures { Leads file.now (field_if (bit map flags_bit) (read_flags file.now) (reading_of file.now cursor)) result }
+pub fn read_flags(file: &[u8], map: u16, step: Result<Cursor, Refusal>) -> Result<Cursor, Refusal>
+    requires { IfOk step (Before file.now) }
+    ensures { Leads file.now (and_then (outcome_of file.now step) (field_if (bit map flags_bit) (read_flags file.now))) result }
 {
+    let cursor = step?;
     if bits::bit(map, FLAGS_BIT) == 0 {
         return Ok(cursor);
     }

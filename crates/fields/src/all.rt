@@ -11,7 +11,7 @@ pub fn read_fields(file: &[u8], cells: &[u16]) -> Result<Cursor, Refusal>
     ensures { Ends cells.now file.now (fields_read cells.now file.now) result }
 {
     let map = bit_map(file);
-    let start = read_map(file)?;
+    let start = read_map(file);
     let flags = read_flags(file, map, start)?;
     let order = read_order(file, map, flags)?;
     let label = read_label(file, map, order)?;

@@ -19,11 +19,12 @@ pub fn read_label(file: &[u8], map: u16, cursor: Cursor) -> Result<Cursor, Refus
         return Err(Refusal::FileEnd);
     };
     let size = length as usize;
+    let label = cursor.at + 1;
+    let left = file.len() - label;
     if size == 0 || LONGEST_LABEL < size {
         return Err(Refusal::FileLabel);
     }
-    let label = cursor.at + 1;
-    if file.len() - label < size {
+    if left < size {
         return Err(Refusal::FileEnd);
     }
     let end = label + size;

@@ -10,8 +10,8 @@ pub struct Levels {
     pub n: u8,
     pub order: Order,
     pub turned: [u8; 10],
-    ghost few: { n ≤ 10 },
-    ghost is_turned: { Turned n order.places turned },
+    pub ghost few: { n ≤ 10 },
+    pub ghost is_turned: { Turned n order.places turned },
 }
 
 // The level of flag v, n where the order does not name it.

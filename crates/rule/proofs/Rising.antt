@@ -34,7 +34,7 @@ pub rising-more : (i : ℕ) → i < places → set (rising i) i i ≡ rising (i 
 rising-more i h = rw add-one (named_more 0 i i places places (omega arith) h (omega arith))
 
 -- past ten flags there is no place more
-rising_most : (n : ℕ) → places ≤ n → rising places ≡ rising n
+pub rising_most : (n : ℕ) → places ≤ n → rising places ≡ rising n
 rising_most n h = named_most 0 places places _ (omega arith) ∙ sym (named_most 0 places n _ h)
 
 pub rising_within : (n : ℕ) → rising (min n places) ≡ rising n

@@ -8,7 +8,7 @@ pub struct Order {
 }
 
 impl Order {
-    // The order that a refusal hands back: zeros.
+    // Ten zeros: what stands where no order is given.
     pub const ZEROS: Order = Order { places: [0; 10] };
 
     // The rising order of n flags: flag 0 is asked first. Of more than ten flags the first ten are named: there are no more places.

@@ -58,7 +58,7 @@ module _ {n S i : ℕ} {first places : List ℕ} (m : Members n first) (f : Foll
   some : i < n → S ≢ 0
   some d z = omega (arith, f.asked, ap set_size z, full_ones 10 0 (omega arith))
 
-  flag_in : i < n → bit S (get_or first S 0) ≡ 1
+  pub flag_in : i < n → bit S (get_or first S 0) ≡ 1
   flag_in d = m.is S f.below (some d)
 
   pub flag_small : i < n → get_or first S 0 < 10
