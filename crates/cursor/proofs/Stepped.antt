@@ -21,13 +21,9 @@ then_then (go x) f g = refl
 pub stays : (next : Reading → Outcome) {o : Outcome} {k : ℕ} → stop k ≡ o → stop k ≡ and_then o next
 stays next e = rw (← e)
 
--- what is read is read on
-pub goes_on : (next : Reading → Outcome) {o p : Outcome} {x : Reading} → go x ≡ o → p ≡ next x → p ≡ and_then o next
-goes_on next e f = rw (← e) f
-
 -- what is read behind a step is read behind what the step is
-pub read_behind : (next : Reading → Outcome) {o o' p : Outcome} → o ≡ o' → p ≡ and_then o next → p ≡ and_then o' next
-read_behind next e f = rw (← e) f
+pub goes_on : (next : Reading → Outcome) {o o' p : Outcome} → o ≡ o' → p ≡ and_then o next → p ≡ and_then o' next
+goes_on next e f = rw (← e) f
 
 -- where a step is refused, so is what hands it on
 pub handed_on : {Stands : Cursor → Type 0} (file : List ℕ) (r : Result Cursor Refusal) (k : Refusal) {o : Outcome}
